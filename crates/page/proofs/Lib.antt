@@ -1,0 +1,11 @@
+pub mod Columns
+pub mod Places
+pub mod Searching
+pub mod PlaceTexts
+pub mod Texts
+pub mod StackEdits
+pub mod Overwrites
+pub mod TextEdits
+pub mod BagEdits
+pub mod Fullness
+pub mod BagLaws

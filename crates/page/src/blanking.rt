@@ -1,0 +1,19 @@
+// Making a page the blank page.
+ghost use mathlib.Core.Path.{_≡_};
+ghost use Rattle.page.specs.Calls.{blankPage, blankTests};
+ghost use Rattle.refusal.specs.Answers.{answer, byNumber, onOk};
+use crate::bag::TAG;
+use crate::checks::PAGE_LENGTH;
+use crate::checks::check_length;
+use refusal::Refusal;
+
+// Makes a page a bag with no stacks.
+pub fn blank(page: &mut [u8]) -> Result<(), Refusal>
+    ensures answers { λ r. ⌜ byNumber r ≡ answer (blankTests (now (page .entry))) tt ⌝ }
+    ensures leaves { λ r. ⌜ now (page .exit) ≡ onOk r (blankPage (now (page .entry))) (now (page .entry)) ⌝ }
+{
+    check_length(page)?;
+    page[0] = TAG;
+    page[1..PAGE_LENGTH].fill(b' ');
+    Ok(())
+}

@@ -1,0 +1,48 @@
+// The tests that calls share, each with its refusal. A call makes them in the order of their numbers.
+ghost use mathlib.Core.List.{[], _∷_};
+ghost use mathlib.Core.Path.{_≡_};
+ghost use Rattle.page.specs.Calls.{noSuchAmount, noSuchKind, shortPage};
+ghost use Rattle.refusal.specs.Answers.{answer, byNumber};
+use crate::contents::Stack;
+use refusal::Refusal;
+
+// The most items that a place can hold.
+pub(crate) const MOST_ITEMS: u32 = 99_999;
+
+// A page is the first 257 bytes of what is handed in: a tag, then 32 places of eight columns.
+pub(crate) const PAGE_LENGTH: usize = 257;
+
+pub(crate) fn check_length(page: &[u8]) -> Result<(), Refusal>
+    ensures { λ r. ⌜ byNumber r ≡ answer (shortPage (now (page .entry)) ∷ []) tt ⌝ }
+{
+    if page.len() < PAGE_LENGTH {
+        return Err(Refusal::ShortPage);
+    }
+    Ok(())
+}
+
+pub(crate) fn check_kind(kind: u32) -> Result<(), Refusal>
+    ensures { λ r. ⌜ byNumber r ≡ answer (noSuchKind kind ∷ []) tt ⌝ }
+{
+    match kind {
+        1..=999 => Ok(()),
+        _ => Err(Refusal::NoSuchKind),
+    }
+}
+
+pub(crate) fn check_amount(amount: u32) -> Result<(), Refusal>
+    ensures { λ r. ⌜ byNumber r ≡ answer (noSuchAmount amount ∷ []) tt ⌝ }
+{
+    match amount {
+        1..=MOST_ITEMS => Ok(()),
+        _ => Err(Refusal::NoSuchAmount),
+    }
+}
+
+// A kind and an amount that are both in range.
+pub(crate) fn check_items(items: Stack) -> Result<(), Refusal>
+    ensures { λ r. ⌜ byNumber r ≡ answer (noSuchKind (items .kind) ∷ noSuchAmount (items .amount) ∷ []) tt ⌝ }
+{
+    check_kind(items.kind)?;
+    check_amount(items.amount)
+}

@@ -1,0 +1,64 @@
+// Making items of one kind into items of another.
+ghost use Prim.Native.Nat.{_≤_};
+ghost use lib.ListN.{length};
+ghost use mathlib.Core.Bool.{true};
+ghost use mathlib.Core.Path.{_≡_};
+ghost use Rattle.page.specs.Calls.{bagCraftTests, craftTests, craftedPage, recipeTests};
+ghost use Rattle.page.specs.Pages.{isBag};
+ghost use Rattle.refusal.specs.Answers.{answer, byNumber, onOk};
+use crate::adding::put;
+use crate::bag::check_bag;
+use crate::checks::check_amount;
+use crate::checks::check_kind;
+use crate::checks::check_length;
+use crate::contents::Stack;
+use crate::removing::take;
+use crate::trial::Trial;
+use crate::trial::saved_bytes;
+use refusal::Refusal;
+
+// Crafts in a bag: the removal is a trial, and the page is put back unless the adding is good too.
+pub(crate) fn exchange(page: &mut [u8], out: Stack, into: Stack) -> Result<(), Refusal>
+    requires long { ⌜ 257 ≤ length (now page) ⌝ }
+    requires bag { ⌜ isBag (now page) ≡ true ⌝ }
+    requires some { ⌜ 1 ≤ out .amount ⌝ }
+    requires few { ⌜ into .amount ≤ 99999 ⌝ }
+    ensures answers { λ r. ⌜ byNumber r ≡ answer (bagCraftTests (now (page .entry)) out into) tt ⌝ }
+    ensures leaves { λ r. ⌜ now (page .exit) ≡ onOk r (craftedPage (now (page .entry)) out into) (now (page .entry)) ⌝ }
+{
+    let saved = saved_bytes(page);
+    let mut trial = Trial {
+        page,
+        saved,
+        kept: false,
+    };
+    take(trial.page, out)?;
+    put(trial.page, into)?;
+    trial.kept = true;
+    Ok(())
+}
+
+// Removes items of one kind and adds items of another; on a refusal the page is as it was.
+pub fn craft(page: &mut [u8], out: Stack, into: Stack) -> Result<(), Refusal>
+    ensures answers { λ r. ⌜ byNumber r ≡ answer (craftTests (now (page .entry)) out into) tt ⌝ }
+    ensures leaves { λ r. ⌜ now (page .exit) ≡ onOk r (craftedPage (now (page .entry)) out into) (now (page .entry)) ⌝ }
+{
+    check_length(page)?;
+    check_recipe(out, into)?;
+    check_bag(page)?;
+    exchange(page, out, into)
+}
+
+// Two stacks that are both in range, and of two kinds.
+fn check_recipe(out: Stack, into: Stack) -> Result<(), Refusal>
+    ensures { λ r. ⌜ byNumber r ≡ answer (recipeTests out into) tt ⌝ }
+{
+    check_kind(out.kind)?;
+    check_kind(into.kind)?;
+    check_amount(out.amount)?;
+    check_amount(into.amount)?;
+    if out.kind == into.kind {
+        return Err(Refusal::NamedTwice);
+    }
+    Ok(())
+}
