@@ -9,10 +9,10 @@ ghost use Rattle.page.specs.Calls.{addTests, addedPage, noRoom, stackTooLarge}
 ghost use Rattle.page.specs.Pages.{isBag, stacks};
 ghost use Rattle.page.specs.Steps.{isFilled};
 ghost use Rattle.refusal.specs.Answers.{answer, byNumber, onOk};
-use crate::bag::PLACES;
+use crate::format::PLACES;
 use crate::bag::check_bag;
 use crate::bag::place_at;
-use crate::checks::MOST_ITEMS;
+use crate::format::MOST_ITEMS;
 use crate::checks::check_items;
 use crate::checks::check_length;
 use crate::contents::Place;

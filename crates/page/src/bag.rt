@@ -11,15 +11,10 @@ use crate::checks::check_length;
 use crate::codec::read_place;
 use crate::contents::Place;
 use crate::expectation::Expectation;
+use crate::format::COLUMNS;
+use crate::format::PLACES;
+use crate::format::TAG;
 use refusal::Refusal;
-
-// The byte with which a bag's page begins.
-pub(crate) const TAG: u8 = 0xC9;
-
-// How many places a page has, and how many columns a place.
-pub(crate) const PLACES: usize = 32;
-
-pub(crate) const COLUMNS: usize = 8;
 
 // Says whether a page is a bag.
 pub fn read(page: &[u8]) -> Result<bool, Refusal>

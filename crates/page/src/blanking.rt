@@ -2,8 +2,8 @@
 ghost use mathlib.Core.Path.{_≡_};
 ghost use Rattle.page.specs.Calls.{blankPage, blankTests};
 ghost use Rattle.refusal.specs.Answers.{answer, byNumber, onOk};
-use crate::bag::TAG;
-use crate::checks::PAGE_LENGTH;
+use crate::format::TAG;
+use crate::format::PAGE_LENGTH;
 use crate::checks::check_length;
 use refusal::Refusal;
 

@@ -4,13 +4,10 @@ ghost use mathlib.Core.Path.{_≡_};
 ghost use Rattle.page.specs.Calls.{noSuchAmount, noSuchKind, shortPage};
 ghost use Rattle.refusal.specs.Answers.{answer, byNumber};
 use crate::contents::Stack;
+use crate::format::LAST_KIND;
+use crate::format::MOST_ITEMS;
+use crate::format::PAGE_LENGTH;
 use refusal::Refusal;
-
-// The most items that a place can hold.
-pub(crate) const MOST_ITEMS: u32 = 99_999;
-
-// A page is the first 257 bytes of what is handed in: a tag, then 32 places of eight columns.
-pub(crate) const PAGE_LENGTH: usize = 257;
 
 pub(crate) fn check_length(page: &[u8]) -> Result<(), Refusal>
     ensures { λ r. ⌜ byNumber r ≡ answer (shortPage (now (page .entry)) ∷ []) tt ⌝ }
@@ -25,7 +22,7 @@ pub(crate) fn check_kind(kind: u32) -> Result<(), Refusal>
     ensures { λ r. ⌜ byNumber r ≡ answer (noSuchKind kind ∷ []) tt ⌝ }
 {
     match kind {
-        1..=999 => Ok(()),
+        1..=LAST_KIND => Ok(()),
         _ => Err(Refusal::NoSuchKind),
     }
 }

@@ -4,9 +4,9 @@ ghost use lib.ListN.{length};
 ghost use mathlib.Core.Path.{_≡_};
 ghost use Rattle.page.specs.Layout.{copied, overwritten, withClosed, withInserted};
 ghost use Rattle.page.specs.Places.{emptyText, text};
-use crate::bag::COLUMNS;
-use crate::bag::PLACES;
-use crate::checks::PAGE_LENGTH;
+use crate::format::COLUMNS;
+use crate::format::PLACES;
+use crate::format::PAGE_LENGTH;
 use crate::contents::Stack;
 
 // Writes a stack into a place.

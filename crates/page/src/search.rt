@@ -8,7 +8,7 @@ ghost use Rattle.page.specs.Pages.{isBag, stacks};
 ghost use Rattle.page.specs.Stacks.{held, spot};
 ghost use Rattle.page.specs.Steps.{stopsWith};
 ghost use Rattle.refusal.specs.Answers.{byNumber};
-use crate::bag::PLACES;
+use crate::format::PLACES;
 use crate::bag::check_bag;
 use crate::bag::place_at;
 use crate::checks::check_kind;

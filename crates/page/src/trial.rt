@@ -4,7 +4,7 @@ ghost use lib.ListN.{drop, length, take};
 ghost use mathlib.Core.Bool.{cond, true};
 ghost use mathlib.Core.List.{_++_};
 ghost use mathlib.Core.Path.{_≡_};
-use crate::checks::PAGE_LENGTH;
+use crate::format::PAGE_LENGTH;
 
 pub(crate) struct Trial<'a> {
     pub(crate) page: &'a mut [u8],
