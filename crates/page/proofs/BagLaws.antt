@@ -7,12 +7,14 @@ use native.Mathlib.Omega.{arith}
 use lib.Dec.{eqb, leb, ltb}
 use lib.ListN.{length, take, drop}
 use Rattle.std.proofs.shelf.Lists.{drop-at, take-append-drop}
+use Rattle.std.proofs.shelf.Tests.{cond-true}
 use Rattle.std.proofs.shelf.Ways.{tells}
 use Rattle.page.specs.declared.contents.Stack.{Stack}
 use Rattle.page.specs.Pages.{isBag, stacks, render, rewritten}
-use Rattle.page.specs.Stacks.{Lawful, held, added, crafted, removed}
-use Rattle.page.specs.Calls.{addedPage, craftedPage, noRoom, removedPage}
-use Rattle.page.proofs.StackEdits.{length-added, length-removed, rising-added, rising-removed}
+use Rattle.page.specs.Stacks.{InRange, Lawful, held, added, crafted, removed}
+use Rattle.page.specs.Calls.{addedPage, blankPage, craftedPage, noRoom, removedPage}
+use Rattle.page.specs.Holdings.{BagAgain, Emptied, Exchanged, Lowered, Raised, countOf, heldIn}
+use Rattle.page.proofs.StackEdits.{held-added, held-removed, length-added, length-removed, rising-added, rising-removed}
 use Rattle.page.proofs.Texts.{isBag-render, lawful-stacks, length-render, stacks-render}
 
 pub lawful-removed :
@@ -20,21 +22,14 @@ pub lawful-removed :
 lawful-removed items ss enough lawful =
     (omega (arith, length-removed items ss, lawful .0), rising-removed items 0 ss enough (lawful .1))
 
--- items that are in range, and for which there is room
-pub record Fits (items : Stack) (ss : List Stack) : Type 0 where
-  pub kind-least : 1 ≤ items .kind
-  pub kind-most : items .kind ≤ 999
-  pub amount-least : 1 ≤ items .amount
-  pub room : noRoom items ss .0 ≡ false
-
-pub lawful-added : (items : Stack) (ss : List Stack) → Fits items ss → Lawful ss → Lawful (added items ss)
-lawful-added items ss fits lawful =
-    let room = fits .room in
+pub lawful-added :
+    (items : Stack) (ss : List Stack) → InRange items → noRoom items ss .0 ≡ false → Lawful ss → Lawful (added items ss)
+lawful-added items ss range room lawful =
     let below : held (items .kind) ss + items .amount ≤ 99999 = grind (arith, tells) in
     let count = length-added items 0 ss (lawful .1) in
     let few = lawful .0 in
     let within : length (added items ss) ≤ 32 = grind (arith, tells) in
-    (within, rising-added items (fits .kind-most) (fits .amount-least) 0 ss (fits .kind-least) below (lawful .1))
+    (within, rising-added items (range .0 .1) (range .1 .0) 0 ss (range .0 .0) below (lawful .1))
 
 -- a page rewritten with lawful stacks
 
@@ -76,3 +71,70 @@ module _ (page : List ℕ) (bag : isBag page ≡ true) (items : Stack) (enough :
         done-is
         ∙ ap₂ (λ (bytes : List ℕ) (ss : List Stack). rewritten bytes (added into ss)) is removed-stacks
         ∙ rewritten-again page (removed items (stacks page)) (crafted items into (stacks page))
+
+-- what a page holds of a kind, by its stacks
+
+heldIn-bag : (kind : ℕ) (page : List ℕ) → isBag page ≡ true → heldIn kind page ≡ held kind (stacks page)
+heldIn-bag kind page bag = cond-true (isBag page) (held kind (stacks page)) 0 bag
+
+module _ (page : List ℕ) (ss : List Stack) (lawful : Lawful ss) where
+  pub bag-again : BagAgain page (rewritten page ss)
+  bag-again = record { bag = rewritten-bag page ss lawful; kept = rewritten-rest page ss }
+
+  pub heldIn-rewritten : (kind : ℕ) → heldIn kind (rewritten page ss) ≡ held kind ss
+  heldIn-rewritten kind =
+      heldIn-bag kind (rewritten page ss) (rewritten-bag page ss lawful) ∙ ap (held kind) (rewritten-stacks page ss lawful)
+
+pub blank-empties : (page : List ℕ) → Emptied page (blankPage page)
+blank-empties page =
+    let lawful : Lawful [] = (omega arith, tt) in
+    record { again = bag-again page [] lawful; holds = heldIn-rewritten page [] lawful }
+
+module _ (page : List ℕ) (bag : isBag page ≡ true) where
+  pub add-raises :
+      (items : Stack) → InRange items → noRoom items (stacks page) .0 ≡ false → Raised page (addedPage page items) items
+  add-raises items range room =
+      let lawful = lawful-stacks page bag in
+      let after = lawful-added items (stacks page) range room lawful in
+      record {
+        again = bag-again page (added items (stacks page)) after;
+        holds = λ kind.
+            heldIn-rewritten page (added items (stacks page)) after kind
+            ∙ held-added kind items 0 (stacks page) (lawful .1)
+            ∙ ap (λ (n : ℕ). n + countOf kind items) (sym (heldIn-bag kind page bag));
+      }
+
+  pub remove-lowers :
+      (items : Stack) → items .amount ≤ held (items .kind) (stacks page) → Lowered page (removedPage page items) items
+  remove-lowers items enough =
+      let lawful = lawful-stacks page bag in
+      let after = lawful-removed items (stacks page) enough lawful in
+      record {
+        again = bag-again page (removed items (stacks page)) after;
+        holds = λ kind.
+            ap (λ (n : ℕ). n + countOf kind items) (heldIn-rewritten page (removed items (stacks page)) after kind)
+            ∙ held-removed kind items 0 (stacks page) (lawful .1) enough
+            ∙ sym (heldIn-bag kind page bag);
+      }
+
+  pub craft-exchanges :
+      (out into : Stack)
+      → InRange into
+      → out .amount ≤ held (out .kind) (stacks page)
+      → noRoom into (removed out (stacks page)) .0 ≡ false
+      → Exchanged page (craftedPage page out into) out into
+  craft-exchanges out into range enough room =
+      let lawful = lawful-stacks page bag in
+      let between = lawful-removed out (stacks page) enough lawful in
+      let after = lawful-added into (removed out (stacks page)) range room between in
+      record {
+        again = bag-again page (crafted out into (stacks page)) after;
+        holds = λ kind.
+            omega (
+              arith,
+              heldIn-rewritten page (crafted out into (stacks page)) after kind,
+              held-added kind into 0 (removed out (stacks page)) (between .1),
+              held-removed kind out 0 (stacks page) (lawful .1) enough,
+              heldIn-bag kind page bag,
+            );
+      }

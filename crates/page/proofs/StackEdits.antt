@@ -284,3 +284,54 @@ length-added items above ss rising = by-held (cases-eq (held (items .kind) ss) 0
         ∙ length-append (there .front) (amounting (there .stack) (there .stack .amount + items .amount) ∷ there .back)
         ∙ omega (arith, ap length (there .split), length-append (there .front) (there .stack ∷ there .back))
         ∙ sym (cond-false (eqb (held (items .kind) ss) 0) (suc (length ss)) (length ss) (ne-eqb _ _ some))
+
+-- how many items of each kind there are
+
+pub held-added :
+    (kind : ℕ) (items : Stack) (above : ℕ) (ss : List Stack)
+    → RisingFrom above ss
+    → held kind (added items ss) ≡ held kind ss + cond (eqb kind (items .kind)) (items .amount) 0
+held-added kind items above [] rising = grind (arith, tells)
+held-added kind items above (s ∷ ss) rising =
+    by-kind (cases-order (s .kind) (items .kind)) (held-added kind items (s .kind) ss (rising .1 .1))
+  where
+    by-kind :
+        (s .kind ≡ items .kind) ⊎ ((s .kind < items .kind) ⊎ (items .kind < s .kind))
+        → held kind (added items ss) ≡ held kind ss + cond (eqb kind (items .kind)) (items .amount) 0
+        → held kind (added items (s ∷ ss)) ≡ held kind (s ∷ ss) + cond (eqb kind (items .kind)) (items .amount) 0
+    by-kind (inl same) after = rw (added-here items s ss same) (grind (arith, tells))
+    by-kind (inr (inl smaller)) after = rw (added-past items s ss smaller) (grind (arith, tells))
+    by-kind (inr (inr larger)) after =
+        let none : held (items .kind) ss ≡ 0 = held-absent (items .kind) (s .kind) ss (omega arith) (rising .1 .1) in
+        let absent-before : kind ≡ items .kind → held kind ss ≡ 0 = λ same. ap (λ (k : ℕ). held k ss) same ∙ none in
+        rw (added-before items s ss larger) (grind (arith, tells))
+
+pub held-removed :
+    (kind : ℕ) (items : Stack) (above : ℕ) (ss : List Stack)
+    → RisingFrom above ss
+    → items .amount ≤ held (items .kind) ss
+    → held kind (removed items ss) + cond (eqb kind (items .kind)) (items .amount) 0 ≡ held kind ss
+held-removed kind items above [] rising enough = grind (arith, tells)
+held-removed kind items above (s ∷ ss) rising enough =
+    by-kind
+    (cases-eq (s .kind) (items .kind))
+    (cases-eq (s .amount) (items .amount))
+    (held-removed kind items (s .kind) ss (rising .1 .1))
+  where
+    by-kind :
+        (s .kind ≡ items .kind) ⊎ (s .kind ≡ items .kind → ⊥)
+        → (s .amount ≡ items .amount) ⊎ (s .amount ≡ items .amount → ⊥)
+        → (items .amount ≤ held (items .kind) ss
+        → held kind (removed items ss) + cond (eqb kind (items .kind)) (items .amount) 0 ≡ held kind ss)
+        → held kind (removed items (s ∷ ss)) + cond (eqb kind (items .kind)) (items .amount) 0 ≡ held kind (s ∷ ss)
+    by-kind (inl same) (inl all) after =
+        let none : held (s .kind) ss ≡ 0 = held-absent (s .kind) (s .kind) ss (omega arith) (rising .1 .1) in
+        let gone : kind ≡ s .kind → held kind ss ≡ 0 = λ is. ap (λ (k : ℕ). held k ss) is ∙ none in
+        rw (removed-whole items s ss same all) (grind (arith, tells))
+    by-kind (inl same) (inr some) after =
+        let enough-here : items .amount ≤ s .amount = grind (arith, tells) in
+        rw (removed-part items s ss same some) (grind (arith, tells))
+    by-kind (inr other) amounts after =
+        let enough-there : items .amount ≤ held (items .kind) ss = grind (arith, tells) in
+        let rest = after enough-there in
+        rw (removed-past items s ss other) (grind (arith, tells))

@@ -6,6 +6,10 @@ use lib.Dec.{eqb, ltb}
 use lib.ListN.{length}
 use Rattle.page.specs.declared.contents.Stack.{Stack}
 
+-- items that a place can hold: of a kind from 1 to 999, and 1 to 99,999 of them
+abbrev pub InRange : Stack → Type 0
+InRange items = ((1 ≤ items .kind) × (items .kind ≤ 999)) × ((1 ≤ items .amount) × (items .amount ≤ 99999))
+
 -- stacks whose kinds rise strictly from above a kind to 999, each of 1 to 99,999 items
 abbrev pub RisingFrom : ℕ → List Stack → Type 0
 RisingFrom above [] = Unit {0}

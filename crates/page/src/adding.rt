@@ -6,17 +6,19 @@ ghost use mathlib.Core.Bool.{true};
 ghost use mathlib.Core.List.{[], _∷_};
 ghost use mathlib.Core.Path.{_≡_};
 ghost use Rattle.page.specs.Calls.{addTests, addedPage, noRoom, stackTooLarge};
+ghost use Rattle.page.specs.Holdings.{Raised};
 ghost use Rattle.page.specs.Pages.{isBag, stacks};
+ghost use Rattle.page.specs.Stacks.{InRange};
 ghost use Rattle.page.specs.Steps.{isFilled};
-ghost use Rattle.refusal.specs.Answers.{answer, byNumber, onOk};
-use crate::format::PLACES;
+ghost use Rattle.refusal.specs.Answers.{answer, byNumber, onOk, whenGood};
 use crate::bag::check_bag;
 use crate::bag::place_at;
-use crate::format::MOST_ITEMS;
 use crate::checks::check_items;
 use crate::checks::check_length;
 use crate::contents::Place;
 use crate::contents::Stack;
+use crate::format::MOST_ITEMS;
+use crate::format::PLACES;
 use crate::layout::insert_stack;
 use crate::layout::write_stack;
 use crate::search::search;
@@ -26,6 +28,7 @@ use refusal::Refusal;
 pub fn add(page: &mut [u8], items: Stack) -> Result<(), Refusal>
     ensures answers { λ r. ⌜ byNumber r ≡ answer (addTests (now (page .entry)) items) tt ⌝ }
     ensures leaves { λ r. ⌜ now (page .exit) ≡ onOk r (addedPage (now (page .entry)) items) (now (page .entry)) ⌝ }
+    ensures holds { λ r. ⌜ whenGood r (Raised (now (page .entry)) (now (page .exit)) items) ⌝ }
 {
     check_length(page)?;
     check_items(items)?;
@@ -37,9 +40,10 @@ pub fn add(page: &mut [u8], items: Stack) -> Result<(), Refusal>
 pub(crate) fn put(page: &mut [u8], items: Stack) -> Result<(), Refusal>
     requires long { ⌜ 257 ≤ length (now page) ⌝ }
     requires bag { ⌜ isBag (now page) ≡ true ⌝ }
-    requires few { ⌜ items .amount ≤ 99999 ⌝ }
+    requires range { ⌜ InRange items ⌝ }
     ensures answers { λ r. ⌜ byNumber r ≡ answer (noRoom items (stacks (now (page .entry))) ∷ []) tt ⌝ }
     ensures leaves { λ r. ⌜ now (page .exit) ≡ onOk r (addedPage (now (page .entry)) items) (now (page .entry)) ⌝ }
+    ensures holds { λ r. ⌜ whenGood r (Raised (now (page .entry)) (now (page .exit)) items) ⌝ }
 {
     let (place, held) = search(page, items.kind);
     if held == 0 {

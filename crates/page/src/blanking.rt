@@ -1,16 +1,18 @@
 // Making a page the blank page.
 ghost use mathlib.Core.Path.{_≡_};
 ghost use Rattle.page.specs.Calls.{blankPage, blankTests};
-ghost use Rattle.refusal.specs.Answers.{answer, byNumber, onOk};
-use crate::format::TAG;
-use crate::format::PAGE_LENGTH;
+ghost use Rattle.page.specs.Holdings.{Emptied};
+ghost use Rattle.refusal.specs.Answers.{answer, byNumber, onOk, whenGood};
 use crate::checks::check_length;
+use crate::format::PAGE_LENGTH;
+use crate::format::TAG;
 use refusal::Refusal;
 
 // Makes a page a bag with no stacks.
 pub fn blank(page: &mut [u8]) -> Result<(), Refusal>
     ensures answers { λ r. ⌜ byNumber r ≡ answer (blankTests (now (page .entry))) tt ⌝ }
     ensures leaves { λ r. ⌜ now (page .exit) ≡ onOk r (blankPage (now (page .entry))) (now (page .entry)) ⌝ }
+    ensures holds { λ r. ⌜ whenGood r (Emptied (now (page .entry)) (now (page .exit))) ⌝ }
 {
     check_length(page)?;
     page[0] = TAG;

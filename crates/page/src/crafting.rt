@@ -4,8 +4,10 @@ ghost use lib.ListN.{length};
 ghost use mathlib.Core.Bool.{true};
 ghost use mathlib.Core.Path.{_≡_};
 ghost use Rattle.page.specs.Calls.{bagCraftTests, craftTests, craftedPage, recipeTests};
+ghost use Rattle.page.specs.Holdings.{Exchanged};
 ghost use Rattle.page.specs.Pages.{isBag};
-ghost use Rattle.refusal.specs.Answers.{answer, byNumber, onOk};
+ghost use Rattle.page.specs.Stacks.{InRange};
+ghost use Rattle.refusal.specs.Answers.{answer, byNumber, onOk, whenGood};
 use crate::adding::put;
 use crate::bag::check_bag;
 use crate::checks::check_amount;
@@ -21,10 +23,11 @@ use refusal::Refusal;
 pub(crate) fn exchange(page: &mut [u8], out: Stack, into: Stack) -> Result<(), Refusal>
     requires long { ⌜ 257 ≤ length (now page) ⌝ }
     requires bag { ⌜ isBag (now page) ≡ true ⌝ }
-    requires some { ⌜ 1 ≤ out .amount ⌝ }
-    requires few { ⌜ into .amount ≤ 99999 ⌝ }
+    requires out_range { ⌜ InRange out ⌝ }
+    requires into_range { ⌜ InRange into ⌝ }
     ensures answers { λ r. ⌜ byNumber r ≡ answer (bagCraftTests (now (page .entry)) out into) tt ⌝ }
     ensures leaves { λ r. ⌜ now (page .exit) ≡ onOk r (craftedPage (now (page .entry)) out into) (now (page .entry)) ⌝ }
+    ensures holds { λ r. ⌜ whenGood r (Exchanged (now (page .entry)) (now (page .exit)) out into) ⌝ }
 {
     let saved = saved_bytes(page);
     let mut trial = Trial {
@@ -42,6 +45,7 @@ pub(crate) fn exchange(page: &mut [u8], out: Stack, into: Stack) -> Result<(), R
 pub fn craft(page: &mut [u8], out: Stack, into: Stack) -> Result<(), Refusal>
     ensures answers { λ r. ⌜ byNumber r ≡ answer (craftTests (now (page .entry)) out into) tt ⌝ }
     ensures leaves { λ r. ⌜ now (page .exit) ≡ onOk r (craftedPage (now (page .entry)) out into) (now (page .entry)) ⌝ }
+    ensures holds { λ r. ⌜ whenGood r (Exchanged (now (page .entry)) (now (page .exit)) out into) ⌝ }
 {
     check_length(page)?;
     check_recipe(out, into)?;

@@ -4,10 +4,10 @@ ghost use lib.ListN.{length};
 ghost use mathlib.Core.Path.{_≡_};
 ghost use Rattle.page.specs.Layout.{copied, overwritten, withClosed, withInserted};
 ghost use Rattle.page.specs.Places.{emptyText, text};
-use crate::format::COLUMNS;
-use crate::format::PLACES;
-use crate::format::PAGE_LENGTH;
 use crate::contents::Stack;
+use crate::format::COLUMNS;
+use crate::format::PAGE_LENGTH;
+use crate::format::PLACES;
 
 // Writes a stack into a place.
 pub(crate) fn write_stack(page: &mut [u8], place: usize, stack: Stack)

@@ -5,9 +5,11 @@ ghost use mathlib.Core.Bool.{true};
 ghost use mathlib.Core.List.{[], _∷_};
 ghost use mathlib.Core.Path.{_≡_};
 ghost use Rattle.page.specs.Calls.{heldTooFew, notEnough, removeTests, removedPage};
+ghost use Rattle.page.specs.Holdings.{Lowered};
 ghost use Rattle.page.specs.Pages.{isBag, stacks};
+ghost use Rattle.page.specs.Stacks.{InRange};
 ghost use Rattle.page.specs.Steps.{leftOf};
-ghost use Rattle.refusal.specs.Answers.{answer, byNumber, onOk};
+ghost use Rattle.refusal.specs.Answers.{answer, byNumber, onOk, whenGood};
 use crate::bag::check_bag;
 use crate::checks::check_items;
 use crate::checks::check_length;
@@ -21,6 +23,7 @@ use refusal::Refusal;
 pub fn remove(page: &mut [u8], items: Stack) -> Result<(), Refusal>
     ensures answers { λ r. ⌜ byNumber r ≡ answer (removeTests (now (page .entry)) items) tt ⌝ }
     ensures leaves { λ r. ⌜ now (page .exit) ≡ onOk r (removedPage (now (page .entry)) items) (now (page .entry)) ⌝ }
+    ensures holds { λ r. ⌜ whenGood r (Lowered (now (page .entry)) (now (page .exit)) items) ⌝ }
 {
     check_length(page)?;
     check_items(items)?;
@@ -32,9 +35,10 @@ pub fn remove(page: &mut [u8], items: Stack) -> Result<(), Refusal>
 pub(crate) fn take(page: &mut [u8], items: Stack) -> Result<(), Refusal>
     requires long { ⌜ 257 ≤ length (now page) ⌝ }
     requires bag { ⌜ isBag (now page) ≡ true ⌝ }
-    requires some { ⌜ 1 ≤ items .amount ⌝ }
+    requires range { ⌜ InRange items ⌝ }
     ensures answers { λ r. ⌜ byNumber r ≡ answer (notEnough items (stacks (now (page .entry))) ∷ []) tt ⌝ }
     ensures leaves { λ r. ⌜ now (page .exit) ≡ onOk r (removedPage (now (page .entry)) items) (now (page .entry)) ⌝ }
+    ensures holds { λ r. ⌜ whenGood r (Lowered (now (page .entry)) (now (page .exit)) items) ⌝ }
 {
     let (place, held) = search(page, items.kind);
     match lowered(held, items.amount)? {

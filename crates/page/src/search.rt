@@ -8,12 +8,12 @@ ghost use Rattle.page.specs.Pages.{isBag, stacks};
 ghost use Rattle.page.specs.Stacks.{held, spot};
 ghost use Rattle.page.specs.Steps.{stopsWith};
 ghost use Rattle.refusal.specs.Answers.{byNumber};
-use crate::format::PLACES;
 use crate::bag::check_bag;
 use crate::bag::place_at;
 use crate::checks::check_kind;
 use crate::checks::check_length;
 use crate::contents::Place;
+use crate::format::PLACES;
 use refusal::Refusal;
 
 // Answers the place where the search for a kind stops, and how many items of it the bag holds.

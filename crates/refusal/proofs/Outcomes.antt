@@ -1,6 +1,6 @@
 -- What a refused call leaves, and how a call whose tests are made in parts answers.
 use Prim.Native.Nat.{ℕ}
-use mathlib.Core.Path.{_≡_, refl, sym, ap, _∙_}
+use mathlib.Core.Path.{_≡_, refl, sym, ap, subst, _∙_}
 use mathlib.Core.Bool.{Bool, true, false, cond}
 use mathlib.Core.List.{List, [], _∷_, _++_}
 use native.Mathlib.Omega.{arith}
@@ -8,12 +8,16 @@ use Rattle.std.specs.declared.result.Result.{Result}
 use Rattle.std.specs.declared.result.Result.the-variants.{Ok, Err}
 use Rattle.refusal.specs.declared.cases.Refusal.{Refusal}
 use Rattle.refusal.specs.Numbers.{number}
-use Rattle.refusal.specs.Answers.{Test, answer, byNumber, onOk}
+use Rattle.refusal.specs.Answers.{Test, answer, byNumber, onOk, whenGood}
 
 -- what a refused call leaves is what was there
 pub stays :
     {T E U : Type 0} (r : Result T E) (e : E) (left good before : U) → r ≡ Err e → left ≡ before → left ≡ onOk r good before
 stays {T} {E} r e left good before refused same = same ∙ sym (ap (λ (q : Result T E). onOk q good before) refused)
+
+-- of a refused call nothing is claimed
+pub unclaimed : {T E : Type 0} (r : Result T E) (e : E) (fact : Type 0) → r ≡ Err e → whenGood r fact
+unclaimed {T} {E} r e fact refused = subst (λ (q : Result T E). whenGood q fact) (sym refused) tt
 
 -- a refusal by the first tests is one by all of them
 pub refused-early :
@@ -47,12 +51,28 @@ passed-early {T} (test ∷ first) later value passed = by-test (test .0) passed 
     by-test true here after = absurd (let no-such : _≡_ {A = ℕ} 0 1 = cc in omega arith)
     by-test false here after = after here
 
--- the exit of a call whose part refused: `out` is what the call returns, `refusal` what the part refused with
+-- what a call claims: its answer, what it leaves, and what holds where it was good
+abbrev pub Claims : {T U : Type 0} → Result T Refusal → Result T ℕ → U → U → U → Type 0 → Type 0
+Claims result answered left good before fact =
+    record {
+      answers : byNumber result ≡ answered;
+      leaves : left ≡ onOk result good before;
+      holds : whenGood result fact;
+    }
+
+-- the exit of a call whose part refused: the call returns `out`, the part refused with `refusal`
 pub refused-exit :
-    {T : Type 0} (result : Result T Refusal) (out refusal : Refusal) (first later : List Test) (value : T)
+    {T U : Type 0} (result : Result T Refusal) (out refusal : Refusal) (first later : List Test) (value : T)
+    → (left good before : U) (fact : Type 0)
     → result ≡ Err out
     → out ≡ refusal
     → Err (number refusal) ≡ answer first (tt {0})
-    → byNumber result ≡ answer (first ++ later) value
-refused-exit {T} result out refusal first later value is same refused =
-    ap byNumber (is ∙ ap {B = Result T Refusal} Err same) ∙ refused-early first later value (number refusal) refused
+    → left ≡ before
+    → Claims result (answer (first ++ later) value) left good before fact
+refused-exit {T} result out refusal first later value left good before fact is same refused unchanged =
+    record {
+      answers =
+          ap byNumber (is ∙ ap {B = Result T Refusal} Err same) ∙ refused-early first later value (number refusal) refused;
+      leaves = stays result out left good before is unchanged;
+      holds = unclaimed result out fact is;
+    }

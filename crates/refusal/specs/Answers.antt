@@ -25,3 +25,8 @@ byNumber (Err refusal) = Err (number refusal)
 abbrev pub onOk : {T E U : Type 0} → Result T E → U → U → U
 onOk (Ok value) good refused = good
 onOk (Err refusal) good refused = refused
+
+-- what holds where a call was good
+abbrev pub whenGood : {T E : Type 0} → Result T E → Type 0 → Type 0
+whenGood (Ok value) fact = fact
+whenGood (Err refusal) fact = Unit {0}

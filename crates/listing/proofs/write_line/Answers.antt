@@ -10,7 +10,7 @@ pub returns : need.returns
 returns c =
     let before = vec-items (c .args .lines .now) in
     let columns =
-        pushed (c .columns .result) refl (c .in-Continue-extend-from-slice .was tt) (c .extend-from-slice .ensures .items) in
+    pushed (c .columns .result) refl (c .in-Continue-extend-from-slice .was tt) (c .extend-from-slice .ensures .items) in
     pushed (10 ∷ []) columns (c .in-Continue-push .was tt) (c .push .ensures .items)
     ∙ ap (λ (written : List ℕ). (before ++ written) ++ (10 ∷ [])) (c .columns .ensures)
     ∙ append-assoc before (text (c .args .stack)) (10 ∷ [])

@@ -25,8 +25,8 @@ pub returns-after-loop-place : need.returns-after-loop-place
 returns-after-loop-place c =
     sym (append-nil (vec-items (c .loop-place .lines)))
     ∙ ap
-      (λ (rest : List ℕ). vec-items (c .loop-place .lines) ++ rest)
-      (sym (linesFrom-all (c .args .page .now) (c .loop-place .place) (c .loop-place-test .left)))
+    (λ (rest : List ℕ). vec-items (c .loop-place .lines) ++ rest)
+    (sym (linesFrom-all (c .args .page .now) (c .loop-place .place) (c .loop-place-test .left)))
     ∙ c .loop-place .inv
 
 pub returns-in-rest : need.returns-in-rest

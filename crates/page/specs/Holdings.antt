@@ -1,0 +1,43 @@
+-- What a page holds of each kind of item, and what a good call makes of that.
+use Prim.Native.Nat.{ℕ, _+_}
+use mathlib.Core.Path.{_≡_}
+use mathlib.Core.Bool.{true, cond}
+use mathlib.Core.List.{List}
+use lib.Dec.{eqb}
+use lib.ListN.{drop}
+use Rattle.page.specs.declared.contents.Stack.{Stack}
+use Rattle.page.specs.Stacks.{held}
+use Rattle.page.specs.Pages.{isBag, stacks}
+
+-- how many items of a kind a page holds: none where it is no bag
+abbrev pub heldIn : ℕ → List ℕ → ℕ
+heldIn kind page = cond (isBag page) (held kind (stacks page)) 0
+
+-- how many of some items are of a kind: all of them or none
+abbrev pub countOf : ℕ → Stack → ℕ
+countOf kind items = cond (eqb kind (items .kind)) (items .amount) 0
+
+-- a page that a good call left: it is a bag, and the bytes after it are kept
+pub record BagAgain (before after : List ℕ) : Type 0 where
+  pub bag : isBag after ≡ true
+  pub kept : drop 257 after ≡ drop 257 before
+
+-- add: so many more of that kind, and of every other kind as many as before
+pub record Raised (before after : List ℕ) (items : Stack) : Type 0 where
+  pub again : BagAgain before after
+  pub holds : (kind : ℕ) → heldIn kind after ≡ heldIn kind before + countOf kind items
+
+-- remove: so many fewer of that kind, and of every other kind as many as before
+pub record Lowered (before after : List ℕ) (items : Stack) : Type 0 where
+  pub again : BagAgain before after
+  pub holds : (kind : ℕ) → heldIn kind after + countOf kind items ≡ heldIn kind before
+
+-- craft: so many fewer of one kind and so many more of another, and of every third kind as many as before
+pub record Exchanged (before after : List ℕ) (out into : Stack) : Type 0 where
+  pub again : BagAgain before after
+  pub holds : (kind : ℕ) → heldIn kind after + countOf kind out ≡ heldIn kind before + countOf kind into
+
+-- blank: nothing of any kind
+pub record Emptied (before after : List ℕ) : Type 0 where
+  pub again : BagAgain before after
+  pub holds : (kind : ℕ) → heldIn kind after ≡ 0
