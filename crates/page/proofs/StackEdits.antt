@@ -335,3 +335,19 @@ held-removed kind items above (s ∷ ss) rising enough =
         let enough-there : items .amount ≤ held (items .kind) ss = grind (arith, tells) in
         let rest = after enough-there in
         rw (removed-past items s ss other) (grind (arith, tells))
+
+-- a kind of which there are items is one that a place can hold
+pub kind-in-range :
+    (kind above : ℕ) (ss : List Stack) → RisingFrom above ss → 0 < held kind ss → (above < kind) × (kind ≤ 999)
+kind-in-range kind above [] rising some = absurd (omega arith)
+kind-in-range kind above (s ∷ ss) rising some =
+    by-kind (cases-eq (s .kind) kind) (λ there. kind-in-range kind (s .kind) ss (rising .1 .1) there)
+  where
+    by-kind :
+        (s .kind ≡ kind) ⊎ (s .kind ≡ kind → ⊥)
+        → (0 < held kind ss → (s .kind < kind) × (kind ≤ 999))
+        → (above < kind) × (kind ≤ 999)
+    by-kind (inl same) after = (omega (arith, rising .0), omega (arith, rising .0))
+    by-kind (inr other) after =
+        let rest = after (rw (held-past kind s ss other) at some) in
+        (omega (arith, rising .0), rest .1)

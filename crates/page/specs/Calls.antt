@@ -59,14 +59,21 @@ noRoom items ss = (
   number NoRoom,
 )
 
--- read: whether the page is a bag
-abbrev pub readAnswer : List ℕ → Result Bool ℕ
-readAnswer page = answer (shortPage page ∷ []) (isBag page)
+-- read: what keeps a page from being read
+abbrev pub readTests : List ℕ → List Test
+readTests page = shortPage page ∷ []
 
--- find: the place where the search for a kind stops, and how many items of it there are
+-- read answers whether the page is a bag
+abbrev pub readAnswer : List ℕ → Result Bool ℕ
+readAnswer page = answer (readTests page) (isBag page)
+
+-- find: what keeps a kind from being looked for
+abbrev pub findTests : List ℕ → ℕ → List Test
+findTests page kind = shortPage page ∷ noSuchKind kind ∷ notBag page ∷ []
+
+-- find answers the place where the search for a kind stops, and how many items of it there are
 abbrev pub findAnswer : List ℕ → ℕ → Result (ℕ × ℕ) ℕ
-findAnswer page kind =
-    answer (shortPage page ∷ noSuchKind kind ∷ notBag page ∷ []) (spot kind (stacks page), held kind (stacks page))
+findAnswer page kind = answer (findTests page kind) (spot kind (stacks page), held kind (stacks page))
 
 -- blank: what keeps a page from being made the blank page
 abbrev pub blankTests : List ℕ → List Test

@@ -1,0 +1,4 @@
+pub mod Texts
+pub mod Refusals
+pub mod Plays
+pub mod Comparing
