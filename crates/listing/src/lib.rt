@@ -63,3 +63,6 @@ fn write_line(lines: &mut Vec<u8>, stack: Stack) -> Result<(), AllocError>
     lines.push(b'\n')?;
     Ok(())
 }
+
+#[cfg(test)]
+mod tests;

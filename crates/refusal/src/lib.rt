@@ -6,6 +6,9 @@ use decimal::last_column;
 mod cases;
 
 pub use cases::Refusal;
+pub use cases::RefusalDebug;
+pub use cases::RefusalEq;
+pub use cases::RefusalPartialEq;
 
 impl Refusal {
     // The number by which scripts know the refusal.
