@@ -17,10 +17,14 @@ columns (suc width) v = columns width (v / 10) ++ (lastColumn v ∷ [])
 abbrev pub isDigit : ℕ → Bool
 isDigit b = leb 48 b && leb b 57
 
+-- a byte that is a space
+abbrev pub isSpace : ℕ → Bool
+isSpace b = eqb b 32
+
 -- spaces only
 abbrev pub blank : List ℕ → Bool
 blank [] = true
-blank (b ∷ bs) = eqb b 32 && blank bs
+blank (b ∷ bs) = isSpace b && blank bs
 
 -- digits only
 abbrev pub digits : List ℕ → Bool
@@ -30,11 +34,11 @@ digits (b ∷ bs) = isDigit b && digits bs
 -- a number right-justified in its columns: spaces, then a digit other than 0 (48), then digits only
 abbrev pub numeral : List ℕ → Bool
 numeral [] = false
-numeral (b ∷ bs) = cond (eqb b 32) (numeral bs) (isDigit b && (not (eqb b 48) && digits bs))
+numeral (b ∷ bs) = cond (isSpace b) (numeral bs) (isDigit b && (not (eqb b 48) && digits bs))
 
 -- whether a column may stand right of others: a space before the number has begun, the digit 0 only after
 abbrev pub mayFollow : Bool → ℕ → Bool
-mayFollow begun b = cond (eqb b 32) (not begun) (cond (eqb b 48) begun (isDigit b))
+mayFollow begun b = cond (isSpace b) (not begun) (cond (eqb b 48) begun (isDigit b))
 
 -- what a column adds to a number: its digit, and nothing for a space
 abbrev pub digit : ℕ → ℕ

@@ -1,6 +1,6 @@
 // Whole numbers as decimal text, right-justified in columns of one byte each.
 ghost use mathlib.Core.Path.{_≡_};
-ghost use Rattle.decimal.specs.Columns.{blank, lastColumn, mayFollow, numeral, digit as digitOf};
+ghost use Rattle.decimal.specs.Columns.{blank, digit as digitOf, isSpace, lastColumn, mayFollow, numeral};
 
 // The column furthest right of a number, a space where nothing is left to write.
 pub fn last_column(value: u32) -> u8
@@ -25,11 +25,17 @@ pub fn is_blank(columns: &[u8]) -> bool
     ensures { λ r. ⌜ r ≡ blank (now (columns .entry)) ⌝ }
 {
     for column in columns {
-        if *column != b' ' {
+        if !is_space(*column) {
             return false;
         }
     }
     true
+}
+
+fn is_space(column: u8) -> bool
+    ensures { λ r. ⌜ r ≡ isSpace column ⌝ }
+{
+    column == b' '
 }
 
 // Whether a column may stand right of others: a space before the number has begun, 0 only after.
@@ -53,7 +59,7 @@ pub fn is_numeral(columns: &[u8]) -> bool
         if !may_follow(begun, *column) {
             return false;
         }
-        begun = *column != b' ';
+        begun = !is_space(*column);
     }
     begun
 }

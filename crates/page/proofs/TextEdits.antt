@@ -197,17 +197,27 @@ textOf-empty (suc n) =
     ∙ replicate-append-replicate 8 (8 * n) 32
     ∙ ap (λ (k : ℕ). replicate k 32) width
 
-pub blanked-text :
+spaces-over-tag :
     (page spaces : List ℕ)
     → 257 ≤ length page
     → spaces ≡ replicate (length (take 256 (drop 1 (set page 0 201)))) 32
     → putMid 1 256 (set page 0 201) spaces ≡ rewritten page []
 unfolding render
-blanked-text [] spaces long is = absurd (omega arith)
-blanked-text (x ∷ xs) spaces long is = blanked (length-take-le 256 xs (omega arith))
+spaces-over-tag [] spaces long is = absurd (omega arith)
+spaces-over-tag (x ∷ xs) spaces long is = blanked (length-take-le 256 xs (omega arith))
   where
     blanked : length (take 256 xs) ≡ 256 → putMid 1 256 (set (x ∷ xs) 0 201) spaces ≡ rewritten (x ∷ xs) []
     blanked width =
         ap
         (λ (bytes : List ℕ). 201 ∷ (bytes ++ drop 256 xs))
         (is ∙ ap (λ (k : ℕ). replicate k 32) width ∙ sym (textOf-empty 32))
+
+pub blanked-text :
+    (page tagged spaces : List ℕ)
+    → 257 ≤ length page
+    → tagged ≡ set page 0 201
+    → spaces ≡ replicate (length (take 256 (drop 1 tagged))) 32
+    → putMid 1 256 tagged spaces ≡ rewritten page []
+blanked-text page tagged spaces long is filled =
+    ap (λ (bytes : List ℕ). putMid 1 256 bytes spaces) is
+    ∙ spaces-over-tag page spaces long (filled ∙ ap (λ (bytes : List ℕ). replicate (length (take 256 (drop 1 bytes))) 32) is)

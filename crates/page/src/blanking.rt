@@ -1,4 +1,6 @@
 // Making a page the blank page.
+ghost use Prim.Native.Nat.{_≤_};
+ghost use lib.ListN.{length, set};
 ghost use mathlib.Core.Path.{_≡_};
 ghost use Rattle.page.specs.Calls.{blankPage, blankTests};
 ghost use Rattle.page.specs.Holdings.{Emptied};
@@ -15,7 +17,14 @@ pub fn blank(page: &mut [u8]) -> Result<(), Refusal>
     ensures holds { λ r. ⌜ whenGood r (Emptied (now (page .entry)) (now (page .exit))) ⌝ }
 {
     check_length(page)?;
-    page[0] = TAG;
+    write_tag(page);
     page[1..PAGE_LENGTH].fill(b' ');
     Ok(())
+}
+
+fn write_tag(page: &mut [u8])
+    requires { ⌜ 257 ≤ length (now page) ⌝ }
+    ensures { λ _. ⌜ now (page .exit) ≡ set (now (page .entry)) 0 201 ⌝ }
+{
+    page[0] = TAG;
 }

@@ -5,8 +5,8 @@ use Rattle.decimal.specs.Columns.{blank}
 use Rattle.decimal.proofs.Steps.{blank-more}
 use Rattle.decimal.proofs.is_blank.Needs as need
 
-pub returns-then-column-ne32 : need.returns-then-column-ne32
-returns-then-column-ne32 c = grind (arith, tells, blank-more)
+pub returns-then-not-is-space : need.returns-then-not-is-space
+returns-then-not-is-space c = grind (arith, tells, blank-more)
 
 pub loop-column-again : need.loop-column-again
 loop-column-again c = grind (arith, tells, blank-more)

@@ -13,7 +13,7 @@ pub returns : need.returns
 returns c =
     let page = c .args .page .now in
     let long : 257 ≤ length page = grind (arith, tells) in
-    let left = blanked-text page (c .fill .last .self) long (c .fill .ensures .after (λ y same. same)) in
+    let left = blanked-text page (c .write-tag .last .page) (c .fill .last .self) long (c .write-tag .ensures) (c .fill .ensures .after (λ y same. same)) in
     record {
       answers = grind (arith, tells);
       leaves = left;
