@@ -9,4 +9,3 @@ pub mod TextEdits
 pub mod BagEdits
 pub mod Fullness
 pub mod BagLaws
-pub mod EditTests

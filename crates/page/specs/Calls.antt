@@ -83,15 +83,14 @@ blankTests page = shortPage page ∷ []
 abbrev pub blankPage : List ℕ → List ℕ
 blankPage page = rewritten page []
 
+-- what keeps some items from being an edit of a page
+abbrev pub editTests : List ℕ → Stack → List Test
+editTests page items =
+    shortPage page ∷ noSuchKind (items .kind) ∷ noSuchAmount (items .amount) ∷ notBag page ∷ []
+
 -- add: what keeps items from being added
 abbrev pub addTests : List ℕ → Stack → List Test
-addTests page items =
-    shortPage page
-    ∷ noSuchKind (items .kind)
-    ∷ noSuchAmount (items .amount)
-    ∷ notBag page
-    ∷ noRoom items (stacks page)
-    ∷ []
+addTests page items = editTests page items ++ (noRoom items (stacks page) ∷ [])
 
 -- the page that add leaves
 abbrev pub addedPage : List ℕ → Stack → List ℕ
@@ -99,13 +98,7 @@ addedPage page items = rewritten page (added items (stacks page))
 
 -- remove: what keeps items from being removed
 abbrev pub removeTests : List ℕ → Stack → List Test
-removeTests page items =
-    shortPage page
-    ∷ noSuchKind (items .kind)
-    ∷ noSuchAmount (items .amount)
-    ∷ notBag page
-    ∷ notEnough items (stacks page)
-    ∷ []
+removeTests page items = editTests page items ++ (notEnough items (stacks page) ∷ [])
 
 -- the page that remove leaves
 abbrev pub removedPage : List ℕ → Stack → List ℕ

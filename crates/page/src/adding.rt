@@ -11,10 +11,8 @@ ghost use Rattle.page.specs.Pages.{isBag, stacks};
 ghost use Rattle.page.specs.Stacks.{InRange};
 ghost use Rattle.page.specs.Steps.{isFilled};
 ghost use Rattle.refusal.specs.Answers.{answer, byNumber, onOk, whenGood};
-use crate::bag::check_bag;
 use crate::bag::place_at;
-use crate::checks::check_items;
-use crate::checks::check_length;
+use crate::checks::check_edit;
 use crate::contents::Place;
 use crate::contents::Stack;
 use crate::format::MOST_ITEMS;
@@ -30,9 +28,7 @@ pub fn add(page: &mut [u8], items: Stack) -> Result<(), Refusal>
     ensures leaves { λ r. ⌜ now (page .exit) ≡ onOk r (addedPage (now (page .entry)) items) (now (page .entry)) ⌝ }
     ensures holds { λ r. ⌜ whenGood r (Raised (now (page .entry)) (now (page .exit)) items) ⌝ }
 {
-    check_length(page)?;
-    check_items(items)?;
-    check_bag(page)?;
+    check_edit(page, items)?;
     put(page, items)
 }
 

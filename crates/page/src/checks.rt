@@ -1,8 +1,9 @@
 // The tests that calls share, each with its refusal. A call makes them in the order of their numbers.
 ghost use mathlib.Core.List.{[], _∷_};
 ghost use mathlib.Core.Path.{_≡_};
-ghost use Rattle.page.specs.Calls.{noSuchAmount, noSuchKind, shortPage};
+ghost use Rattle.page.specs.Calls.{editTests, noSuchAmount, noSuchKind, shortPage};
 ghost use Rattle.refusal.specs.Answers.{answer, byNumber};
+use crate::bag::check_bag;
 use crate::contents::Stack;
 use crate::format::LAST_KIND;
 use crate::format::MOST_ITEMS;
@@ -36,10 +37,12 @@ pub(crate) fn check_amount(amount: u32) -> Result<(), Refusal>
     }
 }
 
-// A kind and an amount that are both in range.
-pub(crate) fn check_items(items: Stack) -> Result<(), Refusal>
-    ensures { λ r. ⌜ byNumber r ≡ answer (noSuchKind (items .kind) ∷ noSuchAmount (items .amount) ∷ []) tt ⌝ }
+// A bag's page, and items of a kind and an amount that are both in range.
+pub(crate) fn check_edit(page: &[u8], items: Stack) -> Result<(), Refusal>
+    ensures { λ r. ⌜ byNumber r ≡ answer (editTests (now (page .entry)) items) tt ⌝ }
 {
+    check_length(page)?;
     check_kind(items.kind)?;
-    check_amount(items.amount)
+    check_amount(items.amount)?;
+    check_bag(page)
 }

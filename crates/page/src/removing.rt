@@ -10,9 +10,7 @@ ghost use Rattle.page.specs.Pages.{isBag, stacks};
 ghost use Rattle.page.specs.Stacks.{InRange};
 ghost use Rattle.page.specs.Steps.{leftOf};
 ghost use Rattle.refusal.specs.Answers.{answer, byNumber, onOk, whenGood};
-use crate::bag::check_bag;
-use crate::checks::check_items;
-use crate::checks::check_length;
+use crate::checks::check_edit;
 use crate::contents::Stack;
 use crate::layout::remove_stack;
 use crate::layout::write_stack;
@@ -25,9 +23,7 @@ pub fn remove(page: &mut [u8], items: Stack) -> Result<(), Refusal>
     ensures leaves { λ r. ⌜ now (page .exit) ≡ onOk r (removedPage (now (page .entry)) items) (now (page .entry)) ⌝ }
     ensures holds { λ r. ⌜ whenGood r (Lowered (now (page .entry)) (now (page .exit)) items) ⌝ }
 {
-    check_length(page)?;
-    check_items(items)?;
-    check_bag(page)?;
+    check_edit(page, items)?;
     take(page, items)
 }
 

@@ -1,7 +1,7 @@
 -- The worked plays of the page's rules hold.
 use Prim.Native.Nat.{ℕ, suc, _+_, _≤_, _<_}
 use mathlib.Core.Path.{_≡_, refl, sym, ap, _∙_}
-use mathlib.Core.Bool.{true}
+use mathlib.Core.Bool.{Bool, true, false, cond}
 use mathlib.Core.List.{List, _∷_, _++_}
 use native.Mathlib.Omega.{arith}
 use lib.ListN.{length}
@@ -11,7 +11,7 @@ use Rattle.std.proofs.shelf.Lists.{length-append}
 use Rattle.std.proofs.shelf.Ways.{tells}
 use Rattle.page.specs.declared.contents.Stack.{Stack}
 use Rattle.refusal.specs.Answers.{onOk}
-use Rattle.page.specs.Calls.{craftedPage}
+use Rattle.page.specs.Calls.{craftedPage, noRoom}
 use Rattle.page.specs.Pages.{isBag, stacks}
 use Rattle.page.specs.Stacks.{RisingFrom, held, removed}
 use Rattle.page.proofs.StackEdits.{found, held-most, held-removed, kind-in-range}
@@ -60,29 +60,43 @@ module _ (page : List ℕ) (out into : ℕ) (start : FullWithoutSix page) where
   still-none enough =
       omega (arith, held-removed 6 (items out 5) 0 (stacks page) (lawful-stacks page (start .bag) .1) enough, start .none)
 
+  -- what the craft's tests before the last one need
+  rising : RisingFrom 0 (stacks page)
+  rising = lawful-stacks page (start .bag) .1
+
+  long : 257 ≤ length page
+  long = bag-parts page (start .bag) .long
+
+  most : held 5 (stacks page) ≤ 99999
+  most = held-most 5 0 (stacks page) rising
+
+  by-room :
+      (room : Bool)
+      → noRoom (items into 6) (removed (items out 5) (stacks page)) .0 ≡ room
+      → (1 ≤ out) × (out ≤ held 5 (stacks page))
+      → (1 ≤ into) × (into ≤ 99999)
+      → craftSix page out into ≡ cond room (Err 13) (Ok tt)
+  by-room room is some into-some =
+      let bag = start .bag in
+      let enough = long in
+      let few = most in
+      grind (arith, tells)
+
   all-crafted : out ≡ held 5 (stacks page) → 1 ≤ out → 1 ≤ into → into ≤ 99999 → craftSix page out into ≡ Ok tt
   all-crafted all some into-some into-few =
-      let lawful = lawful-stacks page (start .bag) in
-      let long = bag-parts page (start .bag) .long in
-      let bag = start .bag in
       let none = still-none (omega arith) in
-      let most = held-most 5 0 (stacks page) (lawful .1) in
       let fewer : suc (length (removed (items out 5) (stacks page))) ≡ 32 =
       ap (λ (n : ℕ). suc (length (removed (items n 5) (stacks page)))) all
-      ∙ length-removed-whole (stacks page) (lawful .1) (omega arith)
+      ∙ length-removed-whole (stacks page) rising (omega arith)
       ∙ start .full in
-      grind (arith, tells)
+      by-room false (grind (arith, tells)) (some, omega arith) (into-some, into-few)
 
   part-refused : 1 ≤ out → out < held 5 (stacks page) → 1 ≤ into → into ≤ 99999 → craftSix page out into ≡ Err 13
   part-refused some part into-some into-few =
-      let lawful = lawful-stacks page (start .bag) in
-      let long = bag-parts page (start .bag) .long in
-      let bag = start .bag in
       let none = still-none (omega arith) in
-      let most = held-most 5 0 (stacks page) (lawful .1) in
       let same : length (removed (items out 5) (stacks page)) ≡ 32 =
-      length-removed-part (stacks page) out (lawful .1) part ∙ start .full in
-      grind (arith, tells)
+      length-removed-part (stacks page) out rising part ∙ start .full in
+      by-room true (grind (arith, tells)) (some, omega arith) (into-some, into-few)
 
 pub plays : Plays
 plays =

@@ -76,3 +76,17 @@ refused-exit {T} result out refusal first later value left good before fact is s
       leaves = stays result out left good before is unchanged;
       holds = unclaimed result out fact is;
     }
+
+-- the exit of a call whose first tests passed, and whose last part makes the claims
+pub passed-exit :
+    {T U : Type 0} (result : Result T Refusal) (first later : List Test) (value : T)
+    → (left good before : U) (fact : Type 0)
+    → Ok (tt {0}) ≡ answer first (tt {0})
+    → Claims result (answer later value) left good before fact
+    → Claims result (answer (first ++ later) value) left good before fact
+passed-exit result first later value left good before fact passed claims =
+    record {
+      answers = claims .answers ∙ sym (passed-early first later value passed);
+      leaves = claims .leaves;
+      holds = claims .holds;
+    }
