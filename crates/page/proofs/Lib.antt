@@ -9,3 +9,4 @@ pub mod TextEdits
 pub mod BagEdits
 pub mod Fullness
 pub mod BagLaws
+pub mod Spots

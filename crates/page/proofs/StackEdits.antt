@@ -138,10 +138,10 @@ pub record Absent (kind : ℕ) (ss : List Stack) : Type 0 where
   pub inserted : (items : Stack) → items .kind ≡ kind → added items ss ≡ front ++ (items ∷ back)
 
 module _ (kind : ℕ) (s : Stack) (ss : List Stack) where
-  spot-past : s .kind < kind → spot kind (s ∷ ss) ≡ suc (spot kind ss)
+  pub spot-past : s .kind < kind → spot kind (s ∷ ss) ≡ suc (spot kind ss)
   spot-past smaller = cond-true (ltb (s .kind) kind) _ _ (lt-ltb _ _ smaller)
 
-  spot-stops : kind ≤ s .kind → spot kind (s ∷ ss) ≡ 0
+  pub spot-stops : kind ≤ s .kind → spot kind (s ∷ ss) ≡ 0
   spot-stops larger = cond-false (ltb (s .kind) kind) _ _ (le-ltb _ _ larger)
 
   held-here : s .kind ≡ kind → held kind (s ∷ ss) ≡ s .amount

@@ -19,7 +19,7 @@ use crate::format::MOST_ITEMS;
 use crate::format::PLACES;
 use crate::layout::insert_stack;
 use crate::layout::write_stack;
-use crate::search::search;
+use crate::search::find_in_bag;
 use refusal::Refusal;
 
 // Raises a stack by some items, or puts a new one in its order.
@@ -41,7 +41,7 @@ pub(crate) fn put(page: &mut [u8], items: Stack) -> Result<(), Refusal>
     ensures leaves { λ r. ⌜ now (page .exit) ≡ onOk r (addedPage (now (page .entry)) items) (now (page .entry)) ⌝ }
     ensures holds { λ r. ⌜ whenGood r (Raised (now (page .entry)) (now (page .exit)) items) ⌝ }
 {
-    let (place, held) = search(page, items.kind);
+    let (place, held) = find_in_bag(page, items.kind);
     if held == 0 {
         if is_full(page) {
             return Err(Refusal::NoRoom);

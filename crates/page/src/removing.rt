@@ -14,7 +14,7 @@ use crate::checks::check_edit;
 use crate::contents::Stack;
 use crate::layout::remove_stack;
 use crate::layout::write_stack;
-use crate::search::search;
+use crate::search::find_in_bag;
 use refusal::Refusal;
 
 // Lowers a stack by some items, and closes the gap where nothing is left.
@@ -36,7 +36,7 @@ pub(crate) fn take(page: &mut [u8], items: Stack) -> Result<(), Refusal>
     ensures leaves { λ r. ⌜ now (page .exit) ≡ onOk r (removedPage (now (page .entry)) items) (now (page .entry)) ⌝ }
     ensures holds { λ r. ⌜ whenGood r (Lowered (now (page .entry)) (now (page .exit)) items) ⌝ }
 {
-    let (place, held) = search(page, items.kind);
+    let (place, held) = find_in_bag(page, items.kind);
     match lowered(held, items.amount)? {
         Some(amount) => write_stack(
             page,

@@ -4,10 +4,12 @@ ghost use lib.ListN.{length};
 ghost use mathlib.Core.Bool.{true};
 ghost use mathlib.Core.Path.{_≡_};
 ghost use Rattle.page.specs.Calls.{findAnswer};
+ghost use Rattle.page.specs.Holdings.{StopsAt};
 ghost use Rattle.page.specs.Pages.{isBag, stacks};
 ghost use Rattle.page.specs.Stacks.{held, spot};
 ghost use Rattle.page.specs.Steps.{stopsWith};
 ghost use Rattle.refusal.specs.Answers.{byNumber};
+ghost use Rattle.std.specs.Vec.{made};
 use crate::bag::check_bag;
 use crate::bag::place_at;
 use crate::checks::check_kind;
@@ -18,16 +20,17 @@ use refusal::Refusal;
 
 // Answers the place where the search for a kind stops, and how many items of it the bag holds.
 pub fn find(page: &[u8], kind: u32) -> Result<(usize, u32), Refusal>
-    ensures { λ r. ⌜ byNumber r ≡ findAnswer (now (page .entry)) kind ⌝ }
+    ensures answers { λ r. ⌜ byNumber r ≡ findAnswer (now (page .entry)) kind ⌝ }
+    ensures stops { λ r. ⌜ made r (λ found. StopsAt kind (stacks (now (page .entry))) (found .0) (found .1)) ⌝ }
 {
     check_length(page)?;
     check_kind(kind)?;
     check_bag(page)?;
-    Ok(search(page, kind))
+    Ok(find_in_bag(page, kind))
 }
 
-// The search goes on past smaller kinds, to the end of the places.
-pub(crate) fn search(page: &[u8], kind: u32) -> (usize, u32)
+// What find answers for a page that is a bag: the search goes on past smaller kinds, to the end of the places.
+pub(crate) fn find_in_bag(page: &[u8], kind: u32) -> (usize, u32)
     requires long { ⌜ 257 ≤ length (now page) ⌝ }
     requires bag { ⌜ isBag (now page) ≡ true ⌝ }
     ensures place { λ r. ⌜ r .0 ≡ spot kind (stacks (now (page .entry))) ⌝ }

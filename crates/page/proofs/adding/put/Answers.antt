@@ -27,8 +27,8 @@ returns-then-held-eq0 c =
     page
     (c .pre .bag)
     items
-    (c .search-place .result .0)
-    (c .search-place .ensures .place)
+    (c .find-in-bag-place .result .0)
+    (c .find-in-bag-place .ensures .place)
     (omega arith)
     few
     (c .insert-stack .last .page)
@@ -43,7 +43,7 @@ pub returns : need.returns
 returns c =
     let page = c .args .page .now in
     let items = c .args .items in
-    let place = c .search-place .result .0 in
+    let place = c .find-in-bag-place .result .0 in
     let amount : c .in-Continue-amount .amount ≡ held (items .kind) (stacks page) + items .amount = grind (arith, tells) in
     let room : noRoom items (stacks page) .0 ≡ false = grind (arith, tells) in
     let left =
@@ -52,7 +52,7 @@ returns c =
     (c .pre .bag)
     items
     place
-    (c .search-place .ensures .place)
+    (c .find-in-bag-place .ensures .place)
     (omega arith)
     (c .write-stack .last .page)
     (c .write-stack .ensures ∙ ap (λ (n : ℕ). overwritten page (1 + 8 * place) (text (amounting items n))) amount) in

@@ -17,7 +17,7 @@ pub returns-in-Some : need.returns-in-Some
 returns-in-Some c =
     let page = c .args .page .now in
     let items = c .args .items in
-    let place = c .search-place .result .0 in
+    let place = c .find-in-bag-place .result .0 in
     let total = held (items .kind) (stacks page) in
     let enough : items .amount ≤ total = grind (arith, tells) in
     let part : total ≡ items .amount → ⊥ = λ all. grind (arith, tells) in
@@ -28,7 +28,7 @@ returns-in-Some c =
     (c .pre .bag)
     items
     place
-    (c .search-place .ensures .place)
+    (c .find-in-bag-place .ensures .place)
     (omega arith)
     (c .write-stack .last .page)
     part
@@ -50,8 +50,8 @@ returns-in-None c =
     page
     (c .pre .bag)
     items
-    (c .search-place .result .0)
-    (c .search-place .ensures .place)
+    (c .find-in-bag-place .result .0)
+    (c .find-in-bag-place .ensures .place)
     (omega arith)
     (c .remove-stack .last .page)
     all

@@ -2,7 +2,7 @@ use Prim.Native.Nat.{_<_}
 use native.Mathlib.Omega.{arith}
 use borrow.Author.Needs.{needs}
 use Rattle.page.proofs.Searching.{searched-none, searched-more, stopped-at, stopped-at-end}
-use Rattle.page.proofs.search.search.Needs as need
+use Rattle.page.proofs.search.find_in_bag.Needs as need
 
 pub loop-place-holds : need.loop-place-holds
 loop-place-holds c = search (needs, searched-none)

@@ -1,6 +1,6 @@
 use Prim.Native.Nat.{_-_}
 use Rattle.page.proofs.Searching.{Searched}
-use Rattle.page.proofs.search.search.Given as given
+use Rattle.page.proofs.search.find_in_bag.Given as given
 
 abbrev pub Inv-loop-place : given.InvT-loop-place
 Inv-loop-place l = Searched (l .page) (l .kind) (l .place)
