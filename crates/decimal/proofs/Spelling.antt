@@ -1,23 +1,17 @@
 -- What is written in columns is read again, and columns that hold a number are its only text.
 use Prim.Native.Nat.{ℕ, zero, suc, _+_, _*_, _/_, _%_, _^_, _<_, _≤_}
-use mathlib.Core.Path.{_≡_, refl, sym, ap, _∙_}
+use mathlib.Core.Path.{_≡_, refl, _∙_}
 use mathlib.Core.Logic.{_⊎_, inl, inr}
-use mathlib.Core.Bool.{Bool, true, false, cond, not, _&&_}
+use mathlib.Core.Bool.{true, false}
 use mathlib.Core.List.{List, [], _∷_, _++_, append-assoc}
 use native.Mathlib.Omega.{arith}
 use native.Mathlib.Nat.{mul-assoc, mul-comm, pow-succ'}
 use lib.Dec.{eqb, leb}
 use lib.ListN.{length, replicate}
-use Rattle.std.proofs.shelf.Lists.{length-push, append-nil}
-use Rattle.std.proofs.shelf.Tests.{cases-eq, cases-bool, and-parts, eqb-true, eq-eqb, ne-eqb}
+use Rattle.std.proofs.shelf.Lists.{append-nil}
+use Rattle.std.proofs.shelf.Tests.{cases-eq, and-parts, eqb-true}
 use Rattle.std.proofs.shelf.Ways.{tells}
 use Rattle.decimal.specs.Columns.{lastColumn, columns, isDigit, blank, digits, numeral, digit, valueFrom, value}
-
-pub length-columns : (w v : ℕ) → length (columns w v) ≡ w
-length-columns zero v = refl
-length-columns (suc w) v =
-    let before : length (columns w (v / 10)) ≡ w = length-columns w (v / 10) in
-    omega (arith, length-push (columns w (v / 10)) (lastColumn v))
 
 -- one more column on the right
 
@@ -63,7 +57,7 @@ blank-push (x ∷ bs) before =
 
 -- what is written is read again
 
-pub blank-columns : (w : ℕ) → blank (columns w 0) ≡ true
+blank-columns : (w : ℕ) → blank (columns w 0) ≡ true
 blank-columns zero = refl
 blank-columns (suc w) = blank-push (columns w 0) (blank-columns w)
 

@@ -2,15 +2,15 @@
 use Prim.Native.Nat.{ℕ, suc, _+_, _-_, _*_, _<_, _≤_}
 use mathlib.Core.Path.{_≡_, refl, sym, ap, ap₂, _∙_}
 use mathlib.Core.Bool.{true}
-use mathlib.Core.List.{List, [], _∷_, _++_}
+use mathlib.Core.List.{List, _∷_, _++_}
 use native.Mathlib.Omega.{arith}
-use lib.ListN.{length, take, drop}
+use lib.ListN.{length, drop}
 use Rattle.std.proofs.shelf.Lists.{length-append}
 use Rattle.page.specs.declared.contents.Stack.{Stack}
-use Rattle.page.specs.Places.{text, emptyText}
-use Rattle.page.specs.Pages.{isBag, stacks, render, rewritten}
+use Rattle.page.specs.Places.{text}
+use Rattle.page.specs.Pages.{isBag, stacks, render}
 use Rattle.page.specs.Layout.{overwritten, copied, withInserted, withClosed}
-use Rattle.page.specs.Stacks.{held, spot, added, removed}
+use Rattle.page.specs.Stacks.{held, spot}
 use Rattle.page.specs.Calls.{addedPage, removedPage}
 use Rattle.page.proofs.StackEdits.{Found, Absent, found, absent, amounting}
 use Rattle.page.proofs.Texts.{lawful-stacks, page-is}

@@ -1,10 +1,9 @@
 -- The pages that edits leave are bags again, of the edited stacks.
-use Prim.Native.Nat.{ℕ, suc, _+_, _<_, _≤_}
-use mathlib.Core.Path.{_≡_, refl, sym, ap, ap₂, _∙_}
-use mathlib.Core.Bool.{Bool, true, false, cond, _&&_, _||_}
-use mathlib.Core.List.{List, [], _∷_, _++_}
+use Prim.Native.Nat.{ℕ, _+_, _≤_}
+use mathlib.Core.Path.{_≡_, sym, ap, ap₂, _∙_}
+use mathlib.Core.Bool.{true, false}
+use mathlib.Core.List.{List, [], _++_}
 use native.Mathlib.Omega.{arith}
-use lib.Dec.{eqb, leb, ltb}
 use lib.ListN.{length, take, drop}
 use Rattle.std.proofs.shelf.Lists.{drop-at, take-append-drop}
 use Rattle.std.proofs.shelf.Tests.{cond-true}
@@ -29,7 +28,7 @@ lawful-added items ss range room lawful =
     let count = length-added items 0 ss (lawful .1) in
     let few = lawful .0 in
     let within : length (added items ss) ≤ 32 = grind (arith, tells) in
-    (within, rising-added items (range .0 .1) (range .1 .0) 0 ss (range .0 .0) below (lawful .1))
+    (within, rising-added items range 0 ss (range .0 .0) below (lawful .1))
 
 -- a page rewritten with lawful stacks
 

@@ -1,17 +1,14 @@
 -- The eight columns of a place, one by one.
-use Prim.Native.Nat.{ℕ, _<_}
+use Prim.Native.Nat.{ℕ}
 use mathlib.Core.Path.{_≡_, refl, sym, ap, _∙_}
-use mathlib.Core.Bool.{Bool, true, false, cond, _&&_}
+use mathlib.Core.Bool.{true, false, _&&_}
 use mathlib.Core.List.{List, [], _∷_}
-use native.Mathlib.Omega.{arith}
 use lib.Dec.{eqb}
 use lib.ListN.{length, getD}
 use Rattle.std.proofs.shelf.Tests.{cond-true, cond-false, eq-eqb, and-from}
 use Rattle.std.proofs.shelf.Counted.{fill-by-all}
 use Rattle.decimal.specs.Columns.{blank, numeral, value}
 use Rattle.page.specs.Places.{placeIn, contents}
-use Rattle.page.specs.declared.contents.Stack.{Stack}
-use Rattle.page.specs.declared.contents.Place.{Place}
 use Rattle.page.specs.declared.contents.Place.the-variants.{Empty, Filled, Malformed}
 
 abbrev pub kindColumns : List ℕ → List ℕ

@@ -1,8 +1,8 @@
 -- What adding to stacks and removing from them does: to the order, to the amounts, and at which place.
-use Prim.Native.Nat.{ℕ, zero, suc, _+_, _-_, _<_, _≤_}
-use mathlib.Core.Path.{_≡_, refl, sym, ap, ap₂, _∙_}
+use Prim.Native.Nat.{ℕ, suc, _+_, _-_, _<_, _≤_}
+use mathlib.Core.Path.{_≡_, refl, sym, ap, _∙_}
 use mathlib.Core.Logic.{_⊎_, inl, inr}
-use mathlib.Core.Bool.{Bool, true, false, cond}
+use mathlib.Core.Bool.{cond}
 use mathlib.Core.List.{List, [], _∷_, _++_}
 use native.Mathlib.Omega.{arith}
 use lib.Dec.{eqb, ltb}
@@ -11,7 +11,7 @@ use Rattle.std.proofs.shelf.Lists.{length-append}
 use Rattle.std.proofs.shelf.Tests.{cases-eq, cases-order, cond-both, cond-true, cond-false, eq-eqb, ne-eqb, lt-ltb, le-ltb}
 use Rattle.std.proofs.shelf.Ways.{tells}
 use Rattle.page.specs.declared.contents.Stack.{Stack}
-use Rattle.page.specs.Stacks.{RisingFrom, held, spot, added, removed}
+use Rattle.page.specs.Stacks.{InRange, RisingFrom, held, spot, added, removed}
 
 -- the same stack with another amount
 abbrev pub amounting : Stack → ℕ → Stack
@@ -53,7 +53,7 @@ module _ (items s : Stack) (ss : List Stack) where
 
 pub rising-from-below : (low high : ℕ) (ss : List Stack) → low ≤ high → RisingFrom high ss → RisingFrom low ss
 rising-from-below low high [] below rising = tt
-rising-from-below low high (s ∷ ss) below rising = ((omega arith, rising .0 .1), rising .1)
+rising-from-below low high (s ∷ ss) below rising = (omega arith, rising .1)
 
 pub held-absent : (kind above : ℕ) (ss : List Stack) → kind ≤ above → RisingFrom above ss → held kind ss ≡ 0
 held-absent kind above [] below rising = refl
@@ -61,14 +61,14 @@ held-absent kind above (s ∷ ss) below rising =
     let rest = held-absent kind (s .kind) ss (omega arith) (rising .1 .1) in
     grind (arith, tells)
 
-module _ (items : Stack) (kind-most : items .kind ≤ 999) (amount-least : 1 ≤ items .amount) where
+module _ (items : Stack) (range : InRange items) where
   pub rising-added :
       (above : ℕ) (ss : List Stack)
       → above < items .kind
       → held (items .kind) ss + items .amount ≤ 99999
       → RisingFrom above ss
       → RisingFrom above (added items ss)
-  rising-added above [] higher room rising = ((higher, kind-most), ((amount-least, omega arith), tt))
+  rising-added above [] higher room rising = (higher, (range, tt))
   rising-added above (s ∷ ss) higher room rising =
       by-kind (cases-order (s .kind) (items .kind)) (λ k l. rising-added (s .kind) ss k l (rising .1 .1))
     where
@@ -78,14 +78,14 @@ module _ (items : Stack) (kind-most : items .kind ≤ 999) (amount-least : 1 ≤
           → RisingFrom above (added items (s ∷ ss))
       by-kind (inl same) after =
           let more : s .amount + items .amount ≤ 99999 = grind (arith, tells) in
-          rw (added-here items s ss same) (rising .0, ((omega arith, more), rising .1 .1))
+          rw (added-here items s ss same) (rising .0, ((rising .1 .0 .0, (omega (arith, range .1), more)), rising .1 .1))
       by-kind (inr (inl smaller)) after =
           let more : held (items .kind) ss + items .amount ≤ 99999 = grind (arith, tells) in
           rw (added-past items s ss smaller) (rising .0, (rising .1 .0, after smaller more))
       by-kind (inr (inr larger)) after =
           rw
           (added-before items s ss larger)
-          ((higher, kind-most), ((amount-least, omega arith), ((larger, rising .0 .1), rising .1)))
+          (higher, (range, (larger, rising .1)))
 
 pub rising-removed :
     (items : Stack) (above : ℕ) (ss : List Stack)
@@ -105,7 +105,7 @@ rising-removed items above (s ∷ ss) enough rising =
         rw (removed-whole items s ss same all) (rising-from-below above (s .kind) ss (omega arith) (rising .1 .1))
     by-kind (inl same) (inr some) after =
         let enough-here : items .amount ≤ s .amount = grind (arith, tells) in
-        rw (removed-part items s ss same some) (rising .0, ((omega arith, omega arith), rising .1 .1))
+        rw (removed-part items s ss same some) (rising .0, ((rising .1 .0 .0, (omega arith, omega (arith, rising .1 .0 .1))), rising .1 .1))
     by-kind (inr other) amounts after =
         let enough-there : items .amount ≤ held (items .kind) ss = grind (arith, tells) in
         rw (removed-past items s ss other) (rising .0, (rising .1 .0, after enough-there))
@@ -234,7 +234,7 @@ pub held-most : (kind above : ℕ) (ss : List Stack) → RisingFrom above ss →
 held-most kind above [] rising = omega arith
 held-most kind above (s ∷ ss) rising =
     let rest = held-most kind (s .kind) ss (rising .1 .1) in
-    cond-both (eqb (s .kind) kind) (s .amount) (held kind ss) (λ n. n ≤ 99999) (λ same. rising .1 .0 .1) (λ other. rest)
+    cond-both (eqb (s .kind) kind) (s .amount) (held kind ss) (λ n. n ≤ 99999) (λ same. rising .1 .0 .1 .1) (λ other. rest)
 
 pub spot-most : (kind : ℕ) (ss : List Stack) → spot kind ss ≤ length ss
 spot-most kind [] = omega arith
@@ -347,7 +347,7 @@ kind-in-range kind above (s ∷ ss) rising some =
         (s .kind ≡ kind) ⊎ (s .kind ≡ kind → ⊥)
         → (0 < held kind ss → (s .kind < kind) × (kind ≤ 999))
         → (above < kind) × (kind ≤ 999)
-    by-kind (inl same) after = (omega (arith, rising .0), omega (arith, rising .0))
+    by-kind (inl same) after = (omega (arith, rising .0), omega (arith, rising .1 .0 .0))
     by-kind (inr other) after =
         let rest = after (rw (held-past kind s ss other) at some) in
         (omega (arith, rising .0), rest .1)

@@ -1,5 +1,5 @@
 -- What overwriting and moving places does to the text of stacks.
-use Prim.Native.Nat.{ℕ, zero, suc, _+_, _-_, _*_, _<_, _≤_}
+use Prim.Native.Nat.{ℕ, zero, suc, _+_, _*_, _≤_}
 use mathlib.Core.Path.{_≡_, refl, sym, ap, ap₂, _∙_}
 use mathlib.Core.List.{List, [], _∷_, _++_, append-assoc}
 use native.Mathlib.Nat.{suc-add, zero-add}
@@ -7,7 +7,7 @@ use native.Mathlib.Omega.{arith}
 use borrow.Rule.Slice.PartMut.{putMid}
 use lib.ListN.{length, take, drop, set, replicate}
 use lib.Seq.{take-add}
-use Rattle.std.proofs.shelf.Lists.{drop-at, drop-drop, length-append, length-drop, length-take-le, replicate-append-replicate, take-append-drop, take-append-le, take-at}
+use Rattle.std.proofs.shelf.Lists.{drop-at, length-append, length-drop, length-take-le, replicate-append-replicate, take-append-drop, take-append-le, take-at}
 use Rattle.page.specs.declared.contents.Stack.{Stack}
 use Rattle.page.specs.Places.{text, emptyText}
 use Rattle.page.specs.Pages.{textOf, render, rewritten}

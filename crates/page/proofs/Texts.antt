@@ -1,8 +1,8 @@
 -- Stacks written to a page are read from it again, and a bag's page is the only text of its stacks.
 use Prim.Native.Nat.{ℕ, zero, suc, _+_, _*_, _<_, _≤_}
 use mathlib.Core.Path.{_≡_, refl, sym, ap, ap₂, _∙_}
-use mathlib.Core.Bool.{Bool, true, false, cond, _&&_}
-use mathlib.Core.List.{List, [], _∷_, _++_, map, append-assoc}
+use mathlib.Core.Bool.{true, false, _&&_}
+use mathlib.Core.List.{List, [], _∷_, _++_, map}
 use native.Mathlib.Omega.{arith}
 use lib.Dec.{eqb, leb, ltb}
 use lib.ListN.{length, getD, take, drop}
@@ -10,7 +10,6 @@ use lib.Seq.{take-add}
 use Rattle.std.specs.Iters.{counting}
 use Rattle.std.proofs.shelf.Lists.{drop-drop, length-append, take-append-drop, take-more}
 use Rattle.std.proofs.shelf.Tests.{and-parts, and-from, eqb-true, false≢true, le-leb, leb-true, lt-ltb, ltb-true}
-use Rattle.std.proofs.shelf.Ways.{tells}
 use Rattle.page.specs.declared.contents.Stack.{Stack}
 use Rattle.page.specs.declared.contents.Place.{Place}
 use Rattle.page.specs.declared.contents.Place.the-variants.{Empty, Filled, Malformed}
@@ -58,10 +57,10 @@ stacks-read (suc n) above [] rest few rising = (empty-read n rest, refl)
 stacks-read (suc n) above (s ∷ ss) rest few rising =
     let after = stacks-read n (s .kind) ss rest (omega arith) (rising .1 .1) in
     let is : placeIn (text s) ≡ Filled s =
-    placeIn-text s (omega arith) (rising .0 .1) (omega arith) (rising .1 .0 .1) in
+    placeIn-text s (rising .1 .0) in
     rw
     is (
-      and-from (ltb above (s .kind)) (inOrder (s .kind) (placesIn n (textOf n ss ++ rest))) (lt-ltb above (s .kind) (rising .0 .0)) (after .0),
+      and-from (ltb above (s .kind)) (inOrder (s .kind) (placesIn n (textOf n ss ++ rest))) (lt-ltb above (s .kind) (rising .0)) (after .0),
       ap (λ (xs : List Stack). s ∷ xs) (after .1),
     )
 
@@ -120,12 +119,11 @@ stacks-only (suc n) above bytes ordered =
     by-place (Filled s) is ordered after =
         let parts = and-parts (ltb above (s .kind)) (inOrder (s .kind) (placesIn n (drop 8 bytes))) ordered in
         let rest = after (s .kind) (parts .1) in
-        let range = filled-in-range (take 8 bytes) s is in
         let higher : above < s .kind = ltb-true above (s .kind) (parts .0) in
         record {
           is = eight-more n bytes (text s) (textOf n (stacksIn (placesIn n (drop 8 bytes)))) (filled-text (take 8 bytes) s is) (rest .is);
           few = omega (arith, rest .few);
-          rising = ((higher, range .kind-most), ((range .amount-least, range .amount-most), rest .rising));
+          rising = (higher, (filled-in-range (take 8 bytes) s is, rest .rising));
         }
     by-place Malformed is ordered after = absurd (false≢true ordered)
 

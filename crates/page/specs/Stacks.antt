@@ -1,6 +1,6 @@
 -- A bag as a list of stacks, and what adding and removing make of it.
 use Prim.Native.Nat.{ℕ, suc, _+_, _-_, _≤_, _<_}
-use mathlib.Core.Bool.{Bool, true, false, cond}
+use mathlib.Core.Bool.{cond}
 use mathlib.Core.List.{List, [], _∷_}
 use lib.Dec.{eqb, ltb}
 use lib.ListN.{length}
@@ -10,11 +10,10 @@ use Rattle.page.specs.declared.contents.Stack.{Stack}
 abbrev pub InRange : Stack → Type 0
 InRange items = ((1 ≤ items .kind) × (items .kind ≤ 999)) × ((1 ≤ items .amount) × (items .amount ≤ 99999))
 
--- stacks whose kinds rise strictly from above a kind to 999, each of 1 to 99,999 items
+-- stacks that places can hold, with kinds that rise strictly from above a kind
 abbrev pub RisingFrom : ℕ → List Stack → Type 0
 RisingFrom above [] = Unit {0}
-RisingFrom above (s ∷ ss) =
-    ((above < s .kind) × (s .kind ≤ 999)) × (((1 ≤ s .amount) × (s .amount ≤ 99999)) × RisingFrom (s .kind) ss)
+RisingFrom above (s ∷ ss) = (above < s .kind) × (InRange s × RisingFrom (s .kind) ss)
 
 -- the stacks that a bag can hold: at most 32 of them
 abbrev pub Lawful : List Stack → Type 0

@@ -15,7 +15,6 @@ use Rattle.std.specs.Vec.{made}
 use Rattle.refusal.specs.declared.cases.Refusal.{Refusal}
 use Rattle.refusal.specs.Answers.{byNumber}
 use Rattle.page_laws.specs.Comparing.{sameText}
-use Rattle.page.specs.declared.contents.Stack.{Stack}
 use Rattle.page.specs.Pages.{isBag, stacks, render}
 use Rattle.page.proofs.Texts.{lawful-stacks, render-stacks, stacks-render}
 

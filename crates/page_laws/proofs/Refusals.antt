@@ -1,5 +1,4 @@
 use mathlib.Core.Path.{refl}
-use mathlib.Core.Bool.{Bool}
 use Rattle.refusal.proofs.First.{first-that-fits}
 use Rattle.page.specs.Pages.{isBag, stacks}
 use Rattle.page.specs.Stacks.{held, spot}

@@ -1,5 +1,4 @@
 use native.Mathlib.Omega.{arith}
-use borrow.Author.Needs.{needs}
 use Rattle.std.proofs.shelf.Ways.{tells}
 use Rattle.page.proofs.Places.{isBag-long}
 use Rattle.page.proofs.bag.is_bag.Needs as need

@@ -1,5 +1,5 @@
 use Prim.Native.Nat.{_+_}
-use mathlib.Core.Path.{_≡_, ap}
+use mathlib.Core.Path.{ap}
 use Rattle.page.specs.Pages.{inOrder}
 use Rattle.page.proofs.Places.{placesFrom, placesFrom-none, placesFrom-more, placesFrom-all, meets-none}
 use Rattle.page.proofs.bag.is_in_order.Needs as need

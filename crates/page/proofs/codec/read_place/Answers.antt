@@ -1,10 +1,6 @@
-use mathlib.Core.Path.{_≡_, sym, _∙_}
-use native.Mathlib.Omega.{arith}
 use borrow.Author.Needs.{needs}
-use lib.ListN.{length}
 use Rattle.std.proofs.shelf.Tests.{and-left, and-right}
-use Rattle.std.proofs.shelf.Ways.{tells}
-use Rattle.page.proofs.Columns.{reads-empty, reads-filled, reads-malformed, kindColumns, amountColumns}
+use Rattle.page.proofs.Columns.{reads-empty, reads-filled, reads-malformed}
 use Rattle.page.proofs.codec.read_place.Needs as need
 
 pub returns-in-len8 : need.returns-in-len8
