@@ -12,7 +12,8 @@ use Rattle.page.specs.Pages.{isBag, stacks, render}
 use Rattle.page.specs.Layout.{overwritten, copied, withInserted, withClosed}
 use Rattle.page.specs.Stacks.{held, spot}
 use Rattle.page.specs.Calls.{addedPage, removedPage}
-use Rattle.page.proofs.StackEdits.{Found, Absent, found, absent, amounting}
+use Rattle.page.proofs.Finding.{Found, Absent, found, absent}
+use Rattle.page.proofs.Fronts.{amounting}
 use Rattle.page.proofs.Texts.{lawful-stacks, page-is}
 use Rattle.page.proofs.TextEdits.{replaced-text, inserted-text, closed-text}
 

@@ -13,7 +13,9 @@ use Rattle.page.specs.Pages.{isBag, stacks, render, rewritten}
 use Rattle.page.specs.Stacks.{InRange, Lawful, held, added, crafted, removed}
 use Rattle.page.specs.Calls.{addedPage, blankPage, craftedPage, noRoom, removedPage}
 use Rattle.page.specs.Holdings.{BagAgain, Emptied, Exchanged, Lowered, Raised, countOf, heldIn}
-use Rattle.page.proofs.StackEdits.{held-added, held-removed, length-added, length-removed, rising-added, rising-removed}
+use Rattle.page.proofs.Amounts.{held-added, held-removed}
+use Rattle.page.proofs.Counting.{length-added, length-removed}
+use Rattle.page.proofs.Rising.{rising-added, rising-removed}
 use Rattle.page.proofs.Texts.{isBag-render, lawful-stacks, length-render, stacks-render}
 
 pub lawful-removed :

@@ -3,7 +3,11 @@ pub mod Places
 pub mod Searching
 pub mod PlaceTexts
 pub mod Texts
-pub mod StackEdits
+pub mod Fronts
+pub mod Rising
+pub mod Finding
+pub mod Counting
+pub mod Amounts
 pub mod Overwrites
 pub mod TextEdits
 pub mod BagEdits

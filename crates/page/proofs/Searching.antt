@@ -15,7 +15,8 @@ use Rattle.page.specs.declared.contents.Place.the-variants.{Empty, Filled, Mal
 use Rattle.page.specs.Pages.{isBag, inOrder, places, placeAt, stacks, stacksIn}
 use Rattle.page.specs.Stacks.{held, spot}
 use Rattle.page.specs.Steps.{stopsWith}
-use Rattle.page.proofs.StackEdits.{held-most, spot-found, spot-most}
+use Rattle.page.proofs.Amounts.{held-most}
+use Rattle.page.proofs.Finding.{spot-found, spot-most}
 use Rattle.page.proofs.Texts.{bag-parts, lawful-stacks}
 use Rattle.page.proofs.Places.{placesFrom, placesFrom-none, placesFrom-more, placesFrom-all}
 

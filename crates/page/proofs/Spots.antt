@@ -12,7 +12,9 @@ use Rattle.std.proofs.shelf.Ways.{tells}
 use Rattle.page.specs.declared.contents.Stack.{Stack}
 use Rattle.page.specs.Holdings.{StopsAt, countOf}
 use Rattle.page.specs.Stacks.{RisingFrom, held, spot}
-use Rattle.page.proofs.StackEdits.{held-absent, spot-most, spot-past, spot-stops}
+use Rattle.page.proofs.Finding.{spot-most}
+use Rattle.page.proofs.Fronts.{spot-past, spot-stops}
+use Rattle.page.proofs.Rising.{held-absent}
 
 none-below : (kind above : ℕ) (ss : List Stack) → kind ≤ above → RisingFrom above ss → All (λ s. kind ≤ s .kind) ss
 none-below kind above [] low rising = tt

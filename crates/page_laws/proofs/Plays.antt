@@ -14,7 +14,8 @@ use Rattle.refusal.specs.Answers.{onOk}
 use Rattle.page.specs.Calls.{craftedPage, noRoom}
 use Rattle.page.specs.Pages.{isBag, stacks}
 use Rattle.page.specs.Stacks.{RisingFrom, held, removed}
-use Rattle.page.proofs.StackEdits.{found, held-most, held-removed, kind-in-range}
+use Rattle.page.proofs.Amounts.{held-most, held-removed, kind-in-range}
+use Rattle.page.proofs.Finding.{found}
 use Rattle.page.proofs.Texts.{bag-parts, lawful-stacks}
 use Rattle.page_laws.specs.Plays.{FullWithoutSix, Plays, addOne, craftSix, items}
 

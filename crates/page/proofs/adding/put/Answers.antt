@@ -13,7 +13,7 @@ use Rattle.page.specs.Places.{text}
 use Rattle.page.specs.Stacks.{held}
 use Rattle.page.proofs.BagEdits.{inserted-page, raised-page}
 use Rattle.page.proofs.BagLaws.{add-raises}
-use Rattle.page.proofs.StackEdits.{amounting}
+use Rattle.page.proofs.Fronts.{amounting}
 use Rattle.page.proofs.adding.put.Needs as need
 
 pub returns-then-held-eq0 : need.returns-then-held-eq0

@@ -10,7 +10,7 @@ use Rattle.page.specs.Places.{text}
 use Rattle.page.specs.Stacks.{held}
 use Rattle.page.proofs.BagEdits.{closed-page, lowered-page}
 use Rattle.page.proofs.BagLaws.{remove-lowers}
-use Rattle.page.proofs.StackEdits.{amounting}
+use Rattle.page.proofs.Fronts.{amounting}
 use Rattle.page.proofs.removing.take.Needs as need
 
 pub returns-in-Some : need.returns-in-Some
