@@ -57,9 +57,6 @@ module _ (page : List ℕ) (bag : isBag page ≡ true) (items : Stack) (enough :
   lawful-after = lawful-removed items (stacks page) enough (lawful-stacks page bag)
 
   module _ (left : List ℕ) (is : left ≡ removedPage page items) where
-    pub removed-bag : isBag left ≡ true
-    removed-bag = ap isBag is ∙ rewritten-bag page (removed items (stacks page)) lawful-after
-
     pub removed-stacks : stacks left ≡ removed items (stacks page)
     removed-stacks = ap stacks is ∙ rewritten-stacks page (removed items (stacks page)) lawful-after
 

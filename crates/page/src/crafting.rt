@@ -16,7 +16,6 @@ use crate::checks::check_length;
 use crate::contents::Stack;
 use crate::removing::take;
 use crate::trial::Trial;
-use crate::trial::saved_bytes;
 use refusal::Refusal;
 
 // Crafts in a bag: the removal is a trial, and the page is put back unless the adding is good too.
@@ -29,15 +28,10 @@ pub(crate) fn exchange(page: &mut [u8], out: Stack, into: Stack) -> Result<(), R
     ensures leaves { λ r. ⌜ now (page .exit) ≡ onOk r (craftedPage (now (page .entry)) out into) (now (page .entry)) ⌝ }
     ensures holds { λ r. ⌜ whenGood r (Exchanged (now (page .entry)) (now (page .exit)) out into) ⌝ }
 {
-    let saved = saved_bytes(page);
-    let mut trial = Trial {
-        page,
-        saved,
-        kept: false,
-    };
+    let mut trial = Trial::begin(page);
     take(trial.page, out)?;
     put(trial.page, into)?;
-    trial.kept = true;
+    trial.keep();
     Ok(())
 }
 
