@@ -6,7 +6,7 @@ SAMPLE := samples/satchel.page
 
 demo:
 	@mkdir -p target
-	@echo "proving and building bagdump (about two minutes on a fresh machine) ..."
+	@echo "proving and building bagdump (two to four minutes on a fresh machine) ..."
 	@rt check bagdump > target/demo.log 2>&1 || { cat target/demo.log; exit 1; }
 	@echo "bagdump < $(SAMPLE)"
 	@target/bin/bagdump < $(SAMPLE)
