@@ -1,4 +1,6 @@
 // Reads a page from standard input and prints its stacks, or why it is no bag.
+#![tactic(auto)]
+
 use listing::dump;
 use std::io::{Read, Write};
 

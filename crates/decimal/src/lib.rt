@@ -1,4 +1,6 @@
 // Whole numbers as decimal text, right-justified in columns of one byte each.
+#![tactic(auto)]
+
 ghost use Rattle.std.specs.Prelude.{◌≡◌};
 ghost use Rattle.decimal.specs.Columns.{blank, digit as digit_of, is_space, last_column, may_follow, numeral};
 

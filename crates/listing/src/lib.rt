@@ -1,4 +1,6 @@
 // A page as lines of text, for people and for tools that inspect module images.
+#![tactic(auto)]
+
 ghost use Rattle.std.specs.Prelude.{◌≡◌, ◌≤◌, [], ◌∷◌, ◌++◌, length, IfOk, OnOk};
 ghost use Rattle.listing.specs.Lines.{dumped, line, lines as lines_of};
 ghost use Rattle.page.specs.Calls.{not_bag, short_page};

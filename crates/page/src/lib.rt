@@ -1,4 +1,6 @@
 // The page: the text of one bag of items.
+#![tactic(auto)]
+
 mod adding;
 mod bag;
 mod blanking;

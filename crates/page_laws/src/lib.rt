@@ -1,4 +1,6 @@
 // What follows from the rules of the page, on calls that rely on it.
+#![tactic(auto)]
+
 ghost use Rattle.std.specs.Prelude.{◌≡◌, ◌≤◌, length, take, IfOk, codes, Decides};
 ghost use Rattle.page.specs.Pages.{stacks};
 ghost use Rattle.page_laws.specs.Comparing.{same_text};

@@ -1,4 +1,6 @@
 // Tests of the page's calls on examples, in a crate of their own so that the page is not proved twice for them.
+#![tactic(auto)]
+
 use page::{Stack, add, blank};
 use refusal::Refusal;
 

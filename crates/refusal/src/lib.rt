@@ -1,4 +1,6 @@
 // The refusals of all layers, and the number by which scripts know each.
+#![tactic(auto)]
+
 ghost use Rattle.std.specs.Prelude.{◌≡◌};
 ghost use Rattle.refusal.specs.Numbers.{number as number_of, refused_line};
 

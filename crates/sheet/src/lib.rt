@@ -1,4 +1,6 @@
 // The array behind a chip: kinds of part, what a sheet is, and the flat sheet.
+#![tactic(auto)]
+
 mod flat;
 mod geometry;
 mod kind;

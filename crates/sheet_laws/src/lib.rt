@@ -1,4 +1,6 @@
 // What follows from the contract of a sheet, on calls that know no particular sheet.
+#![tactic(auto)]
+
 mod copying;
 mod programming;
 

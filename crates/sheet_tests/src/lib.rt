@@ -1,4 +1,6 @@
 // Tests of sheets on examples, in a crate of their own so that the sheets are not proved twice for them.
+#![tactic(auto)]
+
 mod absent;
 mod examples;
 mod memories;

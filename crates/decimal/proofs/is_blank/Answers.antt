@@ -5,8 +5,8 @@ use Rattle.decimal.specs.Columns.{blank}
 use Rattle.decimal.proofs.Steps.{blank_more}
 use Rattle.decimal.proofs.is_blank.Goals as goal
 
-pub returns-then-not-is-space : goal.returns-then-not-is-space
-returns-then-not-is-space c = grind (arith, nat_tests, blank_more)
+pub returns-then-not-is_space : goal.returns-then-not-is_space
+returns-then-not-is_space c = grind (arith, nat_tests, blank_more)
 
 pub loop-column-preserved : goal.loop-column-preserved
 loop-column-preserved c = grind (arith, nat_tests, blank_more)

@@ -4,8 +4,8 @@ use Rattle.std.proofs.lemmas.Bool.Decides.{nat_tests}
 use Rattle.decimal.proofs.Steps.{owed, owed_more}
 use Rattle.decimal.proofs.is_numeral.Goals as goal
 
-pub returns-then-not-may-follow : goal.returns-then-not-may-follow
-returns-then-not-may-follow c = grind (arith, nat_tests, owed_more)
+pub returns-then-not-may_follow : goal.returns-then-not-may_follow
+returns-then-not-may_follow c = grind (arith, nat_tests, owed_more)
 
 pub loop-column-preserved : goal.loop-column-preserved
 loop-column-preserved c = grind (arith, nat_tests, owed_more)
