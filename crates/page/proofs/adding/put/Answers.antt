@@ -22,12 +22,12 @@ returns-then-held-eq0 c =
     page
     c.requires.bag
     items
-    c.find-in-bag-place.result.0
-    c.find-in-bag-place.ensures.place
+    c.find_in_bag-place.result.0
+    c.find_in_bag-place.ensures.place
     (omega arith)
     few
-    c.insert-stack.new.page
-    c.insert-stack.ensures in
+    c.insert_stack.new.page
+    c.insert_stack.ensures in
     record {
       answers = grind (arith, nat_tests);
       leaves = left;
@@ -38,8 +38,8 @@ pub returns : goal.returns
 returns c =
     let page = c.args.page.now in
     let items = c.args.items in
-    let place = c.find-in-bag-place.result.0 in
-    let amount : c.in-ok-amount.amount ≡ held items.kind (stacks page) + items.amount = grind (arith, nat_tests) in
+    let place = c.find_in_bag-place.result.0 in
+    let amount : c.in_ok-amount.amount ≡ held items.kind (stacks page) + items.amount = grind (arith, nat_tests) in
     let room : (no_room items (stacks page)).0 ≡ false = grind (arith, nat_tests) in
     let left =
     raised_page
@@ -47,10 +47,10 @@ returns c =
     c.requires.bag
     items
     place
-    c.find-in-bag-place.ensures.place
+    c.find_in_bag-place.ensures.place
     (omega arith)
-    c.write-stack.new.page
-    (c.write-stack.ensures ∙ ap (λ (n : ℕ). overwritten page (1 + 8 * place) (text (amounting items n))) amount) in
+    c.write_stack.new.page
+    (c.write_stack.ensures ∙ ap (λ (n : ℕ). overwritten page (1 + 8 * place) (text (amounting items n))) amount) in
     record {
       answers = grind (arith, nat_tests);
       leaves = left;

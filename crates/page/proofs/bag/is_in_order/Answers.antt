@@ -6,10 +6,10 @@ use Rattle.page.proofs.bag.is_in_order.Goals as goal
 pub loop-i-init : goal.loop-i-init
 loop-i-init c = ap (in_order 0) (places_from_none c.args.page.now)
 
-pub returns-in-default : goal.returns-in-default
-returns-in-default c =
+pub returns-in_default : goal.returns-in_default
+returns-in_default c =
     let step = places_from_more c.args.page.now c.loop-i.i c.loop-i-test.true in
-    let spoilt = c.in-default.ensures (places_from c.args.page.now (c.loop-i.i + 1)) in
+    let spoilt = c.in_default.ensures (places_from c.args.page.now (c.loop-i.i + 1)) in
     cc
 
 pub loop-i-preserved : goal.loop-i-preserved

@@ -9,7 +9,7 @@ pub returns : goal.returns
 returns c =
     let page = c.args.page.now in
     let long : 257 ≤ length page = grind (arith, nat_tests) in
-    let left = blanked_text page c.write-tag.new.page c.fill.new.self long c.write-tag.ensures (c.fill.ensures.after (λ y same. same)) in
+    let left = blanked_text page c.write_tag.new.page c.fill.new.self long c.write_tag.ensures (c.fill.ensures.after (λ y same. same)) in
     record {
       answers = grind (arith, nat_tests);
       leaves = left;

@@ -4,15 +4,15 @@ use Rattle.refusal.proofs.Outcomes.{passed_exit, refused_exit}
 use Rattle.page.specs.Calls.{bag_craft_tests, not_bag, recipe_tests, short_page}
 use Rattle.page.proofs.crafting.craft.Goals as goal
 
-pub returns-in-err-check-length : goal.returns-in-err-check-length
-returns-in-err-check-length c =
+pub returns-in_err-check_length : goal.returns-in_err-check_length
+returns-in_err-check_length c =
     let page = c.args.page.now in
-    let exit = c.from-residual in
+    let exit = c.from_residual in
     let refused = err_from_is_err_and exit.result exit.ensures.1 in
     refused_exit
     exit.result
     refused.0
-    c.in-err-check-length.field-0.0
+    c.in_err-check_length.field-0.0
     (short_page page ∷ [])
     (recipe_tests c.args.out c.args.into ++ (not_bag page ∷ bag_craft_tests page c.args.out c.args.into))
     tt
@@ -22,21 +22,21 @@ returns-in-err-check-length c =
     _
     refused.1
     refused.2
-    c.in-err-check-length.ensures
+    c.in_err-check_length.ensures
     refl
 
-pub returns-in-err-check-recipe : goal.returns-in-err-check-recipe
-returns-in-err-check-recipe c =
+pub returns-in_err-check_recipe : goal.returns-in_err-check_recipe
+returns-in_err-check_recipe c =
     let page = c.args.page.now in
     let recipe = recipe_tests c.args.out c.args.into in
     let later = not_bag page ∷ bag_craft_tests page c.args.out c.args.into in
-    let exit = c.from-residual-in-err-check-recipe in
+    let exit = c.from_residual-in_err-check_recipe in
     let refused = err_from_is_err_and exit.result exit.ensures.1 in
     let claims =
     refused_exit
     exit.result
     refused.0
-    c.in-err-check-recipe.field-0.0
+    c.in_err-check_recipe.field-0.0
     recipe
     later
     tt
@@ -46,7 +46,7 @@ returns-in-err-check-recipe c =
     _
     refused.1
     refused.2
-    c.in-err-check-recipe.ensures
+    c.in_err-check_recipe.ensures
     refl in
     passed_exit
     exit.result
@@ -57,7 +57,7 @@ returns-in-err-check-recipe c =
     _
     page
     _
-    c.in-ok-check-length.ensures
+    c.in_ok-check_length.ensures
     claims
 
 pub returns : goal.returns
@@ -68,9 +68,9 @@ returns c =
     let recipe = recipe_tests c.args.out c.args.into in
     let edit = bag_craft_tests page c.args.out c.args.into in
     let with_bag =
-    passed_exit result (not_bag page ∷ []) edit tt left _ page _ c.in-ok-check-bag.ensures c.exchange.ensures in
+    passed_exit result (not_bag page ∷ []) edit tt left _ page _ c.in_ok-check_bag.ensures c.exchange.ensures in
     let with_recipe =
-    passed_exit result recipe (not_bag page ∷ edit) tt left _ page _ c.in-ok-check-recipe.ensures with_bag in
+    passed_exit result recipe (not_bag page ∷ edit) tt left _ page _ c.in_ok-check_recipe.ensures with_bag in
     passed_exit
     result
     (short_page page ∷ [])
@@ -80,5 +80,5 @@ returns c =
     _
     page
     _
-    c.in-ok-check-length.ensures
+    c.in_ok-check_length.ensures
     with_recipe

@@ -37,12 +37,12 @@ kept_claims page left good out into answered passed is exchanged =
       holds = subst (λ (after : List ℕ). Exchanged page after out into) (sym is) exchanged;
     }
 
-pub returns-in-err-take : goal.returns-in-err-take
-returns-in-err-take c =
+pub returns-in_err-take : goal.returns-in_err-take
+returns-in_err-take c =
     let page = c.args.page.now in
     let out = c.args.out in
     let begun = c.begin-trial.ensures in
-    let exit = c.from-residual in
+    let exit = c.from_residual in
     let trial = c.drop-trial in
     let refused = err_from_is_err_and exit.result exit.ensures.1 in
     let back : trial.new.self.0 ≡ page =
@@ -53,13 +53,13 @@ returns-in-err-take c =
     trial.new.self.0
     c.take.new.page
     begun.saves
-    (c.in-err-take.ensures.leaves ∙ begun.lends)
+    (c.in_err-take.ensures.leaves ∙ begun.lends)
     (trial.ensures ∙ cond-false c.begin-trial.result.kept _ _ begun.unkept)
     ∙ take-append-drop 257 page in
     refused_exit
     exit.result
     refused.0
-    c.in-err-take.field-0.0
+    c.in_err-take.field-0.0
     (not_enough out (stacks page) ∷ [])
     (no_room c.args.into (removed out (stacks page)) ∷ [])
     tt
@@ -69,21 +69,21 @@ returns-in-err-take c =
     _
     refused.1
     refused.2
-    (c.in-err-take.ensures.answers
+    (c.in_err-take.ensures.answers
     ∙ ap (λ (bytes : List ℕ). answer (not_enough out (stacks bytes) ∷ []) tt) begun.lends)
     (search (rules, back))
 
-pub returns-in-err-put : goal.returns-in-err-put
-returns-in-err-put c =
+pub returns-in_err-put : goal.returns-in_err-put
+returns-in_err-put c =
     let page = c.args.page.now in
     let left = c.take.new.page in
     let begun = c.begin-trial.ensures in
     let same = begun.lends in
-    let left_is = c.in-ok-take.ensures.leaves ∙ ap (λ (bytes : List ℕ). removed_page bytes c.args.out) same in
+    let left_is = c.in_ok-take.ensures.leaves ∙ ap (λ (bytes : List ℕ). removed_page bytes c.args.out) same in
     let enough : c.args.out.amount ≤ held c.args.out.kind (stacks page) = grind (arith, nat_tests) in
     let left_stacks = removed-stacks page c.requires.bag c.args.out enough left left_is in
-    let exit = c.from-residual-in-err-put in
-    let trial = c.drop-trial-in-err-put in
+    let exit = c.from_residual-in_err-put in
+    let trial = c.drop-trial-in_err-put in
     let refused = err_from_is_err_and exit.result exit.ensures.1 in
     let back : trial.new.self.0 ≡ page =
     put_over
@@ -93,7 +93,7 @@ returns-in-err-put c =
     trial.new.self.0
     c.put.new.page
     begun.saves
-    c.in-err-put.ensures.leaves
+    c.in_err-put.ensures.leaves
     (trial.ensures ∙ cond-false c.begin-trial.result.kept _ _ begun.unkept)
     ∙ removed_put_back page c.requires.bag c.args.out enough left left_is in
     record {
@@ -109,7 +109,7 @@ returns c =
     let out = c.args.out in
     let into = c.args.into in
     let same = c.begin-trial.ensures.lends in
-    let left_is = c.in-ok-take.ensures.leaves ∙ ap (λ (bytes : List ℕ). removed_page bytes out) same in
+    let left_is = c.in_ok-take.ensures.leaves ∙ ap (λ (bytes : List ℕ). removed_page bytes out) same in
     let enough : out.amount ≤ held out.kind (stacks page) = grind (arith, nat_tests) in
     let left_stacks = removed-stacks page c.requires.bag out enough left left_is in
     let room : (no_room into (removed out (stacks page))).0 ≡ false = grind (arith, nat_tests) in
@@ -117,7 +117,7 @@ returns c =
     c.drop-trial-2.ensures
     ∙ cond-true c.keep.new.self.kept _ _ c.keep.ensures.kept
     ∙ c.keep.ensures.lends
-    ∙ crafted_page_is page c.requires.bag out enough left left_is into c.put.new.page c.in-ok-put.ensures.leaves in
+    ∙ crafted_page_is page c.requires.bag out enough left left_is into c.put.new.page c.in_ok-put.ensures.leaves in
     kept_claims
     page
     _
@@ -127,4 +127,4 @@ returns c =
     _
     (grind (arith, nat_tests))
     (search (rules, done))
-    (craft_exchanges page c.requires.bag out into c.requires.into-range enough room)
+    (craft_exchanges page c.requires.bag out into c.requires.into_range enough room)

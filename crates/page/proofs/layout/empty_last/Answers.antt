@@ -5,4 +5,4 @@ use Rattle.page.proofs.layout.empty_last.Goals as goal
 
 pub returns : goal.returns
 returns c =
-    overwritten_part c.args.page.now 249 8 c.copy-from-slice.new.self empty_text c.copy-from-slice.ensures.after refl
+    overwritten_part c.args.page.now 249 8 c.copy_from_slice.new.self empty_text c.copy_from_slice.ensures.after refl

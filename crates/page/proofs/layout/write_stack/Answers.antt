@@ -10,7 +10,7 @@ returns c =
     c.args.page.now
     start
     (start + 8 - start)
-    c.copy-from-slice.new.self
+    c.copy_from_slice.new.self
     (text c.args.stack)
-    (c.copy-from-slice.ensures.after ∙ c.columns.ensures)
+    (c.copy_from_slice.ensures.after ∙ c.columns.ensures)
     (omega arith)

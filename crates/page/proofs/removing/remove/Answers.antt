@@ -17,5 +17,5 @@ returns c =
     _
     page
     _
-    c.in-ok-check-edit.ensures
+    c.in_ok-check_edit.ensures
     c.take.ensures

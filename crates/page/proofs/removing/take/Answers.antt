@@ -14,7 +14,7 @@ pub returns-in-Some : goal.returns-in-Some
 returns-in-Some c =
     let page = c.args.page.now in
     let items = c.args.items in
-    let place = c.find-in-bag-place.result.0 in
+    let place = c.find_in_bag-place.result.0 in
     let total = held items.kind (stacks page) in
     let enough : items.amount ≤ total = grind (arith, nat_tests) in
     let part : total ≡ items.amount → ⊥ = λ all. grind (arith, nat_tests) in
@@ -25,11 +25,11 @@ returns-in-Some c =
     c.requires.bag
     items
     place
-    c.find-in-bag-place.ensures.place
+    c.find_in_bag-place.ensures.place
     (omega arith)
-    c.write-stack.new.page
+    c.write_stack.new.page
     part
-    (c.write-stack.ensures ∙ ap (λ (n : ℕ). overwritten page (1 + 8 * place) (text (amounting items n))) amount) in
+    (c.write_stack.ensures ∙ ap (λ (n : ℕ). overwritten page (1 + 8 * place) (text (amounting items n))) amount) in
     record {
       answers = grind (arith, nat_tests);
       leaves = left;
@@ -47,12 +47,12 @@ returns-in-None c =
     page
     c.requires.bag
     items
-    c.find-in-bag-place.result.0
-    c.find-in-bag-place.ensures.place
+    c.find_in_bag-place.result.0
+    c.find_in_bag-place.ensures.place
     (omega arith)
-    c.remove-stack.new.page
+    c.remove_stack.new.page
     all
-    c.remove-stack.ensures in
+    c.remove_stack.ensures in
     record {
       answers = grind (arith, nat_tests);
       leaves = left;

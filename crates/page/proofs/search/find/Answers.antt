@@ -9,15 +9,15 @@ pub returns : goal.returns
 returns c =
     let page = c.args.page.now in
     let bag : is_bag page ≡ true = grind (arith, nat_tests) in
-    let found = c.find-in-bag.ensures in
+    let found = c.find_in_bag.ensures in
     record {
       answers = grind (arith, nat_tests);
       stops =
           stops_at
           c.args.kind
           (stacks page)
-          c.find-in-bag.result.0
-          c.find-in-bag.result.1
+          c.find_in_bag.result.0
+          c.find_in_bag.result.1
           (lawful_stacks page bag).1
           found.place
           found.amount;

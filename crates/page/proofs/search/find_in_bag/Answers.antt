@@ -15,4 +15,4 @@ pub returns-in-Some : goal.returns-in-Some
 returns-in-Some c =
     let stops = c.in-Some.ensures in
     let within : c.loop-place.place < 32 = omega arith in
-    stopped_at c.args.page.now c.requires.bag c.args.kind c.loop-place.place c.loop-place.invariant c.in-Some.amount within (cc c.place-at.ensures)
+    stopped_at c.args.page.now c.requires.bag c.args.kind c.loop-place.place c.loop-place.invariant c.in-Some.amount within (cc c.place_at.ensures)

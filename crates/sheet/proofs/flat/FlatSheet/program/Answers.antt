@@ -6,7 +6,7 @@ use Rattle.sheet.proofs.flat.FlatSheet.program.Goals as goal
 pub returns : goal.returns
 returns g c =
     let geometry = g.K.Kind.geometry in
-    let after = c.write-sector.ensures in
+    let after = c.write_sector.ensures in
     let programs = flat_programs geometry c.args.self.now.memory.now c.args.sector c.args.bytes.now in
     record {
       stays = ap (flat_fit geometry) after ∙ programs.stays;

@@ -4,21 +4,21 @@ use Rattle.sheet.proofs.FlatSpans.{lies_from_span, byte_within, byte_in_memory, 
 use Rattle.sheet.proofs.Sectors.{no_byte_past}
 use Rattle.sheet.proofs.flat.FlatSheet.read.Goals as goal
 
-pub returns-in-default : goal.returns-in-default
-returns-in-default g c = no_byte_missing g.K.Kind.geometry _ _ _ c.in-default.ensures
+pub returns-in_default : goal.returns-in_default
+returns-in_default g c = no_byte_missing g.K.Kind.geometry _ _ _ c.in_default.ensures
 
 pub bounds-self-span : goal.bounds-self-span
 bounds-self-span g c =
     let lies = lies_from_span g.K.Kind.geometry _ _ _ c.in-Some.ensures in
-    byte_within _ _ _ _ _ lies (omega (arith, c.if-byte-sector-size.true, c.sector-size.ensures))
+    byte_within _ _ _ _ _ lies (omega (arith, c.if-byte-sector_size.true, c.sector_size.ensures))
 
-pub returns-then-byte-sector-size : goal.returns-then-byte-sector-size
-returns-then-byte-sector-size g c =
+pub returns-then-byte-sector_size : goal.returns-then-byte-sector_size
+returns-then-byte-sector_size g c =
     let lies = lies_from_span g.K.Kind.geometry _ _ _ c.in-Some.ensures in
-    byte_in_memory _ _ _ _ _ _ lies (omega (arith, c.if-byte-sector-size.true, c.sector-size.ensures))
+    byte_in_memory _ _ _ _ _ _ lies (omega (arith, c.if-byte-sector_size.true, c.sector_size.ensures))
 
-pub returns-else-byte-sector-size : goal.returns-else-byte-sector-size
-returns-else-byte-sector-size g c =
+pub returns-else-byte-sector_size : goal.returns-else-byte-sector_size
+returns-else-byte-sector_size g c =
     sym
     (
     no_byte_past
@@ -28,5 +28,5 @@ returns-else-byte-sector-size g c =
     _
     _
     (flat_shaped g.K.Kind.geometry c.args.self.now.memory.now)
-    (omega (arith, c.if-byte-sector-size.false, c.sector-size.ensures))
+    (omega (arith, c.if-byte-sector_size.false, c.sector_size.ensures))
     )
