@@ -6,9 +6,9 @@ pub returns : goal.returns
 returns g c =
     let source = g.S.Sheet.sectors c.args.source.now in
     let target = g.T.Sheet.sectors c.args.target.now in
-    let from = c.if-not-has-sector.ensures in
-    let to = c.if-not-has-sector-2.ensures in
-    let read = c.read-sector.ensures in
+    let from = c.if-not-has_sector.ensures in
+    let to = c.if-not-has_sector-2.ensures in
+    let read = c.read_sector.ensures in
     let copies =
     programmed_copy g.K.Kind.geometry _ source target _ _ _ _ from.shape from.answers to.answers (search rules) read
     in

@@ -3,7 +3,7 @@ use Rattle.sheet_laws.proofs.programming.program_sector.Goals as goal
 
 pub returns : goal.returns
 returns g c =
-    let can = c.can-program-done.ensures in
+    let can = c.can_program-done.ensures in
     let programs = c.program.ensures in
     record {
       answers = can.answers;
