@@ -9,8 +9,8 @@ returns-in-len8 c = search (rules, reads_empty)
 pub returns-in-len8-2 : goal.returns-in-len8-2
 returns-in-len8-2 c = search (rules, reads_filled)
 
-pub returns-in_default·2 : goal.returns-in_default·2
-returns-in_default·2 c = search (rules, reads_malformed, and_right)
+pub returns-in_default-2 : goal.returns-in_default-2
+returns-in_default-2 c = search (rules, reads_malformed, and_right)
 
-pub returns-in_default·3 : goal.returns-in_default·3
-returns-in_default·3 c = search (rules, reads_malformed, and_left)
+pub returns-in_default-3 : goal.returns-in_default-3
+returns-in_default-3 c = search (rules, reads_malformed, and_left)
