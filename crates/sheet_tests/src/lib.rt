@@ -5,13 +5,9 @@ mod absent;
 mod examples;
 mod memories;
 
-use crate::examples::Example;
-use crate::memories::{bytes_at, filled, is_filled};
+use crate::memories::is_filled;
 use sheet::{Flat, Kind, Sheet};
 use sheet_laws::program_sector;
-use std::alloc::Global;
-use std::process::Abort;
-use std::test::Fail;
 
 // What a sheet reads at byte 0 and another byte of sector 0 and of another sector.
 fn corners<K: Kind, S: Sheet<K>>(sheet: &S, sector: usize, byte: usize) -> [u8; 4] {
@@ -23,60 +19,6 @@ fn corners<K: Kind, S: Sheet<K>>(sheet: &S, sector: usize, byte: usize) -> [u8; 
     ]
 }
 
-fn corners_are_read<K: Kind>(rt: &impl Abort, heap: Global, example: Example) -> Result<(), Fail> {
-    let mut memory = filled(heap, example.length)?;
-    let sheet = Flat::new(memory.as_mut_slice());
-    assert!(rt; Sheet::<K>::is_fit(&sheet));
-    assert_eq!(rt;
-        corners::<K, Flat>(&sheet, example.last_sector, example.last_byte),
-        example.corners
-    );
-    assert_eq!(rt;
-        corners::<K, Flat>(&sheet, example.sectors, example.size),
-        [0, 0xFF, 0xFF, 0xFF]
-    );
-    assert_eq!(rt;
-        corners::<K, Flat>(&sheet, usize::MAX, usize::MAX),
-        [0, 0xFF, 0xFF, 0xFF]
-    );
-    Ok(())
-}
-
-// Programs the last sector like the first of a filled memory, then the first with other bytes, and opens the memory again.
-fn programs_change_one_sector<K: Kind>(
-    rt: &impl Abort,
-    heap: Global,
-    example: Example,
-) -> Result<(), Fail> {
-    let mut memory = filled(heap, example.length)?;
-    let mut sheet = Flat::new(memory.as_mut_slice());
-    let [first, last, _, _] = example.corners;
-    let bytes = filled(heap, example.size)?;
-    assert!(rt; program_sector::<K, Flat>(&mut sheet, example.last_sector, bytes.as_slice()));
-    assert_eq!(rt;
-        corners::<K, Flat>(&sheet, example.last_sector, example.last_byte),
-        [first, last, first, last]
-    );
-    let others = vec![in heap; 0xA5; example.size]?;
-    assert!(rt; program_sector::<K, Flat>(&mut sheet, 0, others.as_slice()));
-    assert_eq!(rt;
-        corners::<K, Flat>(&sheet, example.last_sector, example.last_byte),
-        [0xA5, 0xA5, first, last]
-    );
-    let memory = sheet.into_memory();
-    let [_, second, before_last, _] = example.at_borders;
-    assert_eq!(rt;
-        bytes_at(memory, example.borders),
-        [0xA5, second, before_last, first]
-    );
-    let again = Flat::new(memory);
-    assert_eq!(rt;
-        corners::<K, Flat>(&again, example.last_sector, example.last_byte),
-        [0xA5, 0xA5, first, last]
-    );
-    Ok(())
-}
-
 // Whether a program of a filled memory is refused and leaves every byte of it.
 fn is_refused<K: Kind>(memory: &mut [u8], sector: usize, bytes: &[u8]) -> bool {
     let mut sheet = Flat::new(memory);
@@ -84,57 +26,119 @@ fn is_refused<K: Kind>(memory: &mut [u8], sector: usize, bytes: &[u8]) -> bool {
     !done && is_filled(sheet.into_memory())
 }
 
-fn past_the_end_and_wrong_lengths_are_refused<K: Kind>(
-    rt: &impl Abort,
-    heap: Global,
-    example: Example,
-) -> Result<(), Fail> {
-    let mut memory = filled(heap, example.length)?;
-    let memory = memory.as_mut_slice();
-    let bytes = vec![in heap; 0xA5; example.size]?;
-    assert!(rt; is_refused::<K>(memory, example.sectors, bytes.as_slice()));
-    assert!(rt; is_refused::<K>(memory, usize::MAX, bytes.as_slice()));
-    let short = vec![in heap; 0xA5; example.last_byte]?;
-    assert!(rt; is_refused::<K>(memory, 0, short.as_slice()));
-    let long = vec![in heap; 0xA5; example.size.saturating_add(1)]?;
-    assert!(rt; is_refused::<K>(memory, example.last_sector, long.as_slice()));
-    assert!(rt; is_refused::<K>(memory, 0, &[]));
-    Ok(())
-}
-
-// A memory of another length reads as FFH and programs nothing.
-fn is_unfit<K: Kind>(
-    rt: &impl Abort,
-    heap: Global,
-    length: usize,
-    size: usize,
-) -> Result<(), Fail> {
-    let mut memory = filled(heap, length)?;
-    let bytes = vec![in heap; 0xA5; size]?;
-    assert!(rt; is_refused::<K>(memory.as_mut_slice(), 0, bytes.as_slice()));
-    let sheet = Flat::new(memory.as_mut_slice());
-    assert!(rt; !Sheet::<K>::is_fit(&sheet));
-    assert_eq!(rt; corners::<K, Flat>(&sheet, 1, 1), [0xFF; 4]);
-    Ok(())
-}
-
-fn other_lengths_are_unfit<K: Kind>(
-    rt: &impl Abort,
-    heap: Global,
-    example: Example,
-) -> Result<(), Fail> {
-    is_unfit::<K>(rt, heap, example.length.saturating_sub(1), example.size)?;
-    is_unfit::<K>(rt, heap, example.length.saturating_add(1), example.size)?;
-    is_unfit::<K>(rt, heap, 0, example.size)
-}
-
 #[cfg(test)]
 mod tests {
     use super::*;
     use crate::absent::Absent;
-    use crate::examples::{EXAMPLE_011A, EXAMPLE_080B};
+    use crate::examples::{EXAMPLE_011A, EXAMPLE_080B, Example};
+    use crate::memories::{bytes_at, filled};
     use sheet::{Nx25f011a, Nx25f080b};
     use sheet_laws::copy_sector;
+    use std::alloc::Global;
+    use std::process::Abort;
+    use std::test::Fail;
+
+    fn corners_are_read<K: Kind>(
+        rt: &impl Abort,
+        heap: Global,
+        example: Example,
+    ) -> Result<(), Fail> {
+        let mut memory = filled(heap, example.length)?;
+        let sheet = Flat::new(memory.as_mut_slice());
+        assert!(rt; Sheet::<K>::is_fit(&sheet));
+        assert_eq!(rt;
+            corners::<K, Flat>(&sheet, example.last_sector, example.last_byte),
+            example.corners
+        );
+        assert_eq!(rt;
+            corners::<K, Flat>(&sheet, example.sectors, example.size),
+            [0, 0xFF, 0xFF, 0xFF]
+        );
+        assert_eq!(rt;
+            corners::<K, Flat>(&sheet, usize::MAX, usize::MAX),
+            [0, 0xFF, 0xFF, 0xFF]
+        );
+        Ok(())
+    }
+
+    // Programs the last sector like the first of a filled memory, then the first with other bytes, and opens the memory again.
+    fn programs_change_one_sector<K: Kind>(
+        rt: &impl Abort,
+        heap: Global,
+        example: Example,
+    ) -> Result<(), Fail> {
+        let mut memory = filled(heap, example.length)?;
+        let mut sheet = Flat::new(memory.as_mut_slice());
+        let [first, last, _, _] = example.corners;
+        let bytes = filled(heap, example.size)?;
+        assert!(rt; program_sector::<K, Flat>(&mut sheet, example.last_sector, bytes.as_slice()));
+        assert_eq!(rt;
+            corners::<K, Flat>(&sheet, example.last_sector, example.last_byte),
+            [first, last, first, last]
+        );
+        let others = vec![in heap; 0xA5; example.size]?;
+        assert!(rt; program_sector::<K, Flat>(&mut sheet, 0, others.as_slice()));
+        assert_eq!(rt;
+            corners::<K, Flat>(&sheet, example.last_sector, example.last_byte),
+            [0xA5, 0xA5, first, last]
+        );
+        let memory = sheet.into_memory();
+        let [_, second, before_last, _] = example.at_borders;
+        assert_eq!(rt;
+            bytes_at(memory, example.borders),
+            [0xA5, second, before_last, first]
+        );
+        let again = Flat::new(memory);
+        assert_eq!(rt;
+            corners::<K, Flat>(&again, example.last_sector, example.last_byte),
+            [0xA5, 0xA5, first, last]
+        );
+        Ok(())
+    }
+
+    fn past_the_end_and_wrong_lengths_are_refused<K: Kind>(
+        rt: &impl Abort,
+        heap: Global,
+        example: Example,
+    ) -> Result<(), Fail> {
+        let mut memory = filled(heap, example.length)?;
+        let memory = memory.as_mut_slice();
+        let bytes = vec![in heap; 0xA5; example.size]?;
+        assert!(rt; is_refused::<K>(memory, example.sectors, bytes.as_slice()));
+        assert!(rt; is_refused::<K>(memory, usize::MAX, bytes.as_slice()));
+        let short = vec![in heap; 0xA5; example.last_byte]?;
+        assert!(rt; is_refused::<K>(memory, 0, short.as_slice()));
+        let long = vec![in heap; 0xA5; example.size.saturating_add(1)]?;
+        assert!(rt; is_refused::<K>(memory, example.last_sector, long.as_slice()));
+        assert!(rt; is_refused::<K>(memory, 0, &[]));
+        Ok(())
+    }
+
+    // A memory of another length reads as FFH and programs nothing.
+    fn is_unfit<K: Kind>(
+        rt: &impl Abort,
+        heap: Global,
+        length: usize,
+        size: usize,
+    ) -> Result<(), Fail> {
+        let mut memory = filled(heap, length)?;
+        let bytes = vec![in heap; 0xA5; size]?;
+        assert!(rt; is_refused::<K>(memory.as_mut_slice(), 0, bytes.as_slice()));
+        let sheet = Flat::new(memory.as_mut_slice());
+        assert!(rt; !Sheet::<K>::is_fit(&sheet));
+        assert_eq!(rt; corners::<K, Flat>(&sheet, 1, 1), [0xFF; 4]);
+        Ok(())
+    }
+
+    fn other_lengths_are_unfit<K: Kind>(
+        rt: &impl Abort,
+        heap: Global,
+        example: Example,
+    ) -> Result<(), Fail> {
+        is_unfit::<K>(rt, heap, example.length.saturating_sub(1), example.size)?;
+        is_unfit::<K>(rt, heap, example.length.saturating_add(1), example.size)?;
+        is_unfit::<K>(rt, heap, 0, example.size)
+    }
 
     #[test]
     fn both_kinds_have_their_numbers(rt: HostRuntime) {

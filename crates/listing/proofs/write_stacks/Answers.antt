@@ -13,7 +13,7 @@ loop-place-preserved c =
     let page = c.args.page.now in
     let rest = lines_from page (c.loop-place.place + 1) in
     let here = lines_from_more page c.loop-place.place c.in-Filled.stack c.loop-place-test.true (sym (c.in-Filled.ensures ∙ place_at_part page c.loop-place.place)) in
-    ap (λ (written : List ℕ). written ++ rest) c.in-ok-write-line.ensures
+    ap (λ (written : List ℕ). written ++ rest) c.in_ok-write_line.ensures
     ∙ append_assoc (vec_items c.loop-place.lines) (line c.in-Filled.stack) rest
     ∙ ap (λ (more : List ℕ). vec_items c.loop-place.lines ++ more) (sym here)
     ∙ c.loop-place.invariant
@@ -26,11 +26,11 @@ returns-after-loop-place c =
     (sym (lines_from_all c.args.page.now c.loop-place.place c.loop-place-test.false))
     ∙ c.loop-place.invariant
 
-pub returns-in-default : goal.returns-in-default
-returns-in-default c =
+pub returns-in_default : goal.returns-in_default
+returns-in_default c =
     let page = c.args.page.now in
     let place = c.loop-place.place in
-    let none = lines_from_unfilled page place c.loop-place-test.true (λ s is. c.in-default.not-Filled s (c.read-place.ensures ∙ place_at_part page place ∙ is)) in
+    let none = lines_from_unfilled page place c.loop-place-test.true (λ s is. c.in_default.not-Filled s (c.read_place.ensures ∙ place_at_part page place ∙ is)) in
     sym (append-nil (vec_items c.loop-place.lines))
     ∙ ap (λ (rest : List ℕ). vec_items c.loop-place.lines ++ rest) (sym none)
     ∙ c.loop-place.invariant

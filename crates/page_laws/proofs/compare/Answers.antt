@@ -3,14 +3,14 @@ use Rattle.std.proofs.lemmas.Result.{err_from_is_err_and}
 use Rattle.std.proofs.lemmas.Bool.Decides.{nat_tests}
 use Rattle.page_laws.proofs.compare.Goals as goal
 
-pub returns-in-err-other-bag : goal.returns-in-err-other-bag
-returns-in-err-other-bag c =
-    let exit = c.from-residual-in-err-other-bag in
+pub returns-in_err-other_bag : goal.returns-in_err-other_bag
+returns-in_err-other_bag c =
+    let exit = c.from_residual-in_err-other_bag in
     let refused = err_from_is_err_and exit.result exit.ensures.1 in
     grind (arith, nat_tests)
 
-pub returns-then-other-bag : goal.returns-then-other-bag
-returns-then-other-bag c = grind (arith, nat_tests)
+pub returns-then-other_bag : goal.returns-then-other_bag
+returns-then-other_bag c = grind (arith, nat_tests)
 
-pub returns-else-one-bag : goal.returns-else-one-bag
-returns-else-one-bag c = grind (arith, nat_tests)
+pub returns-else-one_bag : goal.returns-else-one_bag
+returns-else-one_bag c = grind (arith, nat_tests)

@@ -5,4 +5,4 @@ use Rattle.page_laws.proofs.first_play.Goals as goal
 
 pub returns : goal.returns
 returns c =
-    record { columns = c.columns.ensures ∙ ap text c.twelve-of-kind-seven.ensures ∙ plays.small_stack; plays = plays }
+    record { columns = c.columns.ensures ∙ ap text c.twelve_of_kind_seven.ensures ∙ plays.small_stack; plays = plays }
