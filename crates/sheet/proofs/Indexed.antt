@@ -1,6 +1,6 @@
 -- Lists that are made from a function of the index, and products of an index and a width.
 use Rattle.std.proofs.Common.{◌≡◌, ℕ, ◌+◌, ◌*◌, ◌<◌, ◌≤◌, ◌⊎◌, List, map, length, get_or, set, sym, ap, ◌∙◌, subst, inl, inr, ⊎_elim, arith}
-use Rattle.std.specs.List.{range_with_len, AllByRecursion as All}
+use Rattle.std.specs.List.{range_with_len, AllByRecursion}
 use Rattle.std.proofs.lemmas.Nat.{mul-le}
 use Rattle.std.proofs.lemmas.List.FromFn.{length-map-range_with_len, get_or-map-range_with_len}
 use Rattle.std.proofs.ByRecursion.{All-from_get_or}
@@ -49,7 +49,7 @@ map_counting_set {X} f f' n s below others =
 
 -- what holds at each index holds of the whole list
 pub all_map_counting :
-    {X : Type 0} (P : X → Type 0) (f : ℕ → X) (n : ℕ) → ((s : ℕ) → s < n → P (f s)) → All P (map f (range_with_len 0 n))
+    {X : Type 0} (P : X → Type 0) (f : ℕ → X) (n : ℕ) → ((s : ℕ) → s < n → P (f s)) → AllByRecursion P (map f (range_with_len 0 n))
 all_map_counting P f n each =
     All-from_get_or
     P
