@@ -1,7 +1,19 @@
--- What the columns from one place on are, in terms of the column at that place and those after it.
-use Rattle.std.proofs.Common.{◌≡◌, ℕ, ◌+◌, ◌<◌, Bool, true, false, cond, not, ◌&&◌, eqb, List, length, get_or, drop}
-use Rattle.std.proofs.lemmas.List.{at_drop_more}
-use Rattle.decimal.specs.Columns.{blank, digits, numeral, is_digit}
+-- One column more: what the columns from one place on are, and what is written from the right.
+use Rattle.std.proofs.Common.{◌≡◌, ℕ, suc, ◌+◌, ◌-◌, ◌/◌, ◌<◌, Bool, true, false, cond, not, ◌&&◌, eqb, List, [], ◌∷◌, ◌++◌, length, get_or, take, drop, reverse, set, append_assoc, arith}
+use Rattle.std.proofs.lemmas.List.{at_drop_more, reverse-append, take_more_set}
+use Rattle.decimal.specs.Columns.{last_column, columns, blank, digits, numeral, is_digit}
+
+-- a number in columns, of which so many are written, the right one first
+pub written_more :
+    (width value count : ℕ) (written : List ℕ)
+    → count < width
+    → count < length written
+    → columns (width - count) value ++ reverse (take count written) ≡ columns (width - (count + 1)) (value / 10) ++ reverse (take (count + 1) (set written count (last_column value)))
+written_more width value count written more within =
+    let one : width - count ≡ suc (width - (count + 1)) = omega arith in
+    rw
+    (one, take_more_set written count (last_column value) within, reverse-append (take count written) (last_column value ∷ []))
+    (append_assoc (columns (width - (count + 1)) (value / 10)) (last_column value ∷ []) (reverse (take count written)))
 
 pub blank_more : (xs : List ℕ) (i : ℕ) → i < length xs → blank (drop i xs) ≡ (eqb (get_or xs i 0) 32 && blank (drop (i + 1) xs))
 blank_more xs i within = at_drop_more blank xs i 0 within

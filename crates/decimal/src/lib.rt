@@ -2,7 +2,7 @@
 #![tactic(auto)]
 
 ghost use Rattle.std.specs.Prelude.{◌≡◌};
-ghost use Rattle.decimal.specs.Columns.{blank, digit as digit_of, is_space, last_column, may_follow, numeral};
+ghost use Rattle.decimal.specs.Columns.{blank, columns as columns_of, digit as digit_of, is_space, last_column, may_follow, numeral};
 
 // The column furthest right of a number, a space where nothing is left to write.
 pub fn last_column(value: u32) -> u8
@@ -13,6 +13,20 @@ pub fn last_column(value: u32) -> u8
     } else {
         b'0' + (value % 10) as u8
     }
+}
+
+// A number right-justified in that many columns, spaces on its left.
+pub fn columns<const WIDTH: usize>(value: u32) -> [u8; WIDTH]
+    ensures { result ≡ columns_of WIDTH value }
+{
+    let mut columns = [b' '; WIDTH];
+    let mut rest = value;
+    for column in columns.iter_mut() {
+        *column = last_column(rest);
+        rest /= 10;
+    }
+    columns.reverse();
+    columns
 }
 
 // What a column adds to the number that it stands in.
