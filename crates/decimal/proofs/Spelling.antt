@@ -1,6 +1,7 @@
 -- What is written in columns is read again, and columns that hold a number are its only text.
-use Rattle.std.proofs.Common.{◌≡◌, ℕ, zero, suc, ◌+◌, ◌*◌, ◌/◌, ◌%◌, ◌^◌, ◌<◌, ◌≤◌, true, false, eqb, leb, ◌⊎◌, List, [], ◌∷◌, ◌++◌, length, replicate, refl, ◌∙◌, inl, inr, append_assoc, mul_assoc, mul_comm, arith}
+use Rattle.std.proofs.Common.{◌≡◌, ℕ, zero, suc, ◌+◌, ◌*◌, ◌/◌, ◌%◌, ◌^◌, ◌<◌, ◌≤◌, min, true, false, eqb, leb, ◌⊎◌, ◌-◌, List, [], ◌∷◌, ◌++◌, length, replicate, refl, ◌∙◌, inl, inr, append_assoc, mul_assoc, mul_comm, arith}
 use native.Mathlib.Nat.{pow-succ'}
+use Rattle.std.proofs.Math.Nat.{pow-le-pow_right}
 use Rattle.std.proofs.lemmas.List.{append-nil}
 use Rattle.std.proofs.lemmas.Bool.{cases_eq, and_parts, eqb-true}
 use Rattle.std.proofs.lemmas.Bool.Decides.{nat_tests}
@@ -163,6 +164,12 @@ value_below (b ∷ bs) holds = by_space (cases_eq b 32) (λ inner. value_below b
     by_space (inr other) rest =
         let one : 10 * 0 + digit b < 10 = grind (arith, nat_tests) in
         omega (arith, digits_below 10 (10 * 0 + digit b) bs one (grind (arith, nat_tests)), wider)
+
+-- nine columns of a number are below the largest u32
+pub value_fits : (bs : List ℕ) → numeral bs ≡ true → length bs ≤ 9 → min (value bs) (2 ^ 32 - 1) ≡ value bs
+value_fits bs holds few =
+    let nine : 10 ^ length bs ≤ 10 ^ 9 = pow-le-pow_right (omega arith) few in
+    omega (arith, value_below bs holds)
 
 pub blank_is_spaces : (bs : List ℕ) → blank bs ≡ true → bs ≡ replicate (length bs) 32
 blank_is_spaces [] holds = refl

@@ -1,7 +1,7 @@
 -- One column more: what the columns from one place on are, and what is written from the right.
-use Rattle.std.proofs.Common.{◌≡◌, ℕ, suc, ◌+◌, ◌-◌, ◌/◌, ◌<◌, Bool, true, false, cond, not, ◌&&◌, eqb, List, [], ◌∷◌, ◌++◌, length, get_or, take, drop, reverse, set, append_assoc, arith}
+use Rattle.std.proofs.Common.{◌≡◌, ℕ, suc, ◌+◌, ◌-◌, ◌*◌, ◌/◌, ◌^◌, ◌<◌, min, Bool, true, false, cond, not, ◌&&◌, eqb, List, [], ◌∷◌, ◌++◌, length, get_or, take, drop, reverse, set, fold, refl, append_assoc, arith}
 use Rattle.std.proofs.lemmas.List.{at_drop_more, reverse-append, take_more_set}
-use Rattle.decimal.specs.Columns.{last_column, columns, blank, digits, numeral, is_digit}
+use Rattle.decimal.specs.Columns.{last_column, columns, blank, digits, numeral, is_digit, digit, value_from}
 
 -- a number in columns, of which so many are written, the right one first
 pub written_more :
@@ -30,3 +30,14 @@ owed_cons false b xs = cond (eqb b 32) (numeral xs) (is_digit b && (not (eqb b 4
 pub owed_more : (begun : Bool) (xs : List ℕ) (i : ℕ) → i < length xs → owed begun (drop i xs) ≡ owed_cons begun (get_or xs i 0) (drop (i + 1) xs)
 owed_more true xs i within = at_drop_more digits xs i 0 within
 owed_more false xs i within = at_drop_more numeral xs i 0 within
+
+-- one more column of a number that is at most the largest u32
+abbrev pub capped_push : ℕ → ℕ → ℕ
+capped_push v b = min (min (v * 10) (2 ^ 32 - 1) + digit b) (2 ^ 32 - 1)
+
+capped_more : (v b : ℕ) → capped_push (min v (2 ^ 32 - 1)) b ≡ min (10 * v + digit b) (2 ^ 32 - 1)
+capped_more v b = omega arith
+
+pub fold-capped_push : (v : ℕ) (bs : List ℕ) → fold capped_push (min v (2 ^ 32 - 1)) bs ≡ min (value_from v bs) (2 ^ 32 - 1)
+fold-capped_push v [] = refl
+fold-capped_push v (b ∷ bs) = rw (capped_more v b) (fold-capped_push (10 * v + digit b) bs)

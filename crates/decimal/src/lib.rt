@@ -1,8 +1,8 @@
 // Whole numbers as decimal text, right-justified in columns of one byte each.
 #![tactic(auto)]
 
-ghost use Rattle.std.specs.Prelude.{◌≡◌};
-ghost use Rattle.decimal.specs.Columns.{blank, columns as columns_of, digit as digit_of, is_space, last_column, may_follow, numeral};
+ghost use Rattle.std.specs.Prelude.{◌≡◌, ◌-◌, ◌^◌, min};
+ghost use Rattle.decimal.specs.Columns.{blank, columns as columns_of, digit as digit_of, is_space, last_column, may_follow, numeral, value as value_of};
 
 // The column furthest right of a number, a space where nothing is left to write.
 pub fn last_column(value: u32) -> u8
@@ -34,6 +34,15 @@ pub fn digit(column: u8) -> u32
     ensures { result ≡ digit_of column }
 {
     u32::from(column.saturating_sub(b'0'))
+}
+
+// The number that the columns spell, or the largest u32 where it is larger.
+pub fn value(columns: &[u8]) -> u32
+    ensures { result ≡ min (value_of columns.now) (2 ^ 32 - 1) }
+{
+    columns.iter().fold(0u32, |value, column| {
+        value.saturating_mul(10).saturating_add(digit(*column))
+    })
 }
 
 // Whether the columns hold nothing but spaces.
