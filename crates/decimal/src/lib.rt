@@ -19,6 +19,7 @@ pub fn last_column(value: u32) -> u8
 pub fn columns<const WIDTH: usize>(value: u32) -> [u8; WIDTH]
     ensures { result ≡ columns_of WIDTH value }
 {
+    // Turned round at the end: a proof knows nothing of what is written through `iter_mut().rev()`.
     let mut columns = [b' '; WIDTH];
     let mut rest = value;
     for column in columns.iter_mut() {
