@@ -4,7 +4,7 @@
 ghost use Rattle.std.specs.Prelude.{◌≡◌};
 ghost use Rattle.refusal.specs.Numbers.{number as number_of, refused_line};
 
-use decimal::last_column;
+use decimal::columns;
 
 mod cases;
 
@@ -19,13 +19,11 @@ impl Refusal {
     }
 
     // The refusal as a line of text, `refused` and its number in three columns.
+    // An array and no `Display`: it needs no memory, as a handheld has no heap, and cannot fail as a formatter can.
     pub fn line(self) -> [u8; 11]
         ensures { result ≡ refused_line (number_of self) }
     {
-        let number = self.number();
-        let hundreds = last_column(number / 10 / 10);
-        let tens = last_column(number / 10);
-        let ones = last_column(number);
+        let [hundreds, tens, ones] = columns::<3>(self.number());
         [
             b'r', b'e', b'f', b'u', b's', b'e', b'd', hundreds, tens, ones, b'\n',
         ]
