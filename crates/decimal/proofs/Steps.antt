@@ -1,7 +1,7 @@
 -- One column more: what the columns from one place on are, and what is written from the right.
 use Rattle.std.proofs.Common.{◌≡◌, ℕ, suc, ◌+◌, ◌-◌, ◌*◌, ◌/◌, ◌^◌, ◌<◌, min, Bool, true, false, cond, not, ◌&&◌, eqb, List, [], ◌∷◌, ◌++◌, length, get_or, take, drop, reverse, set, fold, refl, append_assoc, arith}
 use Rattle.std.proofs.lemmas.List.{at_drop_more, reverse-append, take_more_set}
-use Rattle.decimal.specs.Columns.{last_column, columns, blank, digits, numeral, is_digit, digit, value_from}
+use Rattle.decimal.specs.Columns.{last_column, columns, digits, numeral, is_digit, digit, value_from}
 
 -- a number in columns, of which so many are written, the right one first
 pub written_more :
@@ -14,9 +14,6 @@ written_more width value count written more within =
     rw
     (one, take_more_set written count (last_column value) within, reverse-append (take count written) (last_column value ∷ []))
     (append_assoc (columns (width - (count + 1)) (value / 10)) (last_column value ∷ []) (reverse (take count written)))
-
-pub blank_more : (xs : List ℕ) (i : ℕ) → i < length xs → blank (drop i xs) ≡ (eqb (get_or xs i 0) 32 && blank (drop (i + 1) xs))
-blank_more xs i within = at_drop_more blank xs i 0 within
 
 -- what is still owed of the columns to come: digits only once the number has begun, else a numeral
 abbrev pub owed : Bool → List ℕ → Bool

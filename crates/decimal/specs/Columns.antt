@@ -1,5 +1,6 @@
 -- A whole number as decimal text, right-justified in columns of one byte each.
-use Rattle.std.specs.Prelude.{ℕ, zero, suc, ◌+◌, ◌-◌, ◌*◌, ◌/◌, ◌%◌, Bool, true, false, cond, not, ◌&&◌, List, [], ◌∷◌, ◌++◌, ◌==◌, nat_le}
+use Rattle.std.specs.Prelude.{ℕ, zero, suc, ◌+◌, ◌-◌, ◌*◌, ◌/◌, ◌%◌, Bool, false, cond, not, ◌&&◌, List, [], ◌∷◌, ◌++◌, ◌==◌, nat_le}
+use Rattle.std.specs.List.{list_all}
 
 -- the column furthest right of a number: its last digit, or a space (32) where nothing is left to write
 abbrev pub last_column : ℕ → ℕ
@@ -20,13 +21,11 @@ is_space b = b == 32
 
 -- spaces only
 abbrev pub blank : List ℕ → Bool
-blank [] = true
-blank (b ∷ bs) = is_space b && blank bs
+blank bs = list_all is_space bs
 
 -- digits only
 abbrev pub digits : List ℕ → Bool
-digits [] = true
-digits (b ∷ bs) = is_digit b && digits bs
+digits bs = list_all is_digit bs
 
 -- a number right-justified in its columns: spaces, then a digit other than 0 (48), then digits only
 abbrev pub numeral : List ℕ → Bool

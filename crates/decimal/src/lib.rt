@@ -50,12 +50,7 @@ pub fn value(columns: &[u8]) -> u32
 pub fn is_blank(columns: &[u8]) -> bool
     ensures { result ≡ blank columns.now }
 {
-    for column in columns {
-        if !is_space(*column) {
-            return false;
-        }
-    }
-    true
+    columns.iter().all(|column| is_space(*column))
 }
 
 fn is_space(column: u8) -> bool
