@@ -1,11 +1,25 @@
 -- What is written in columns is read again, and columns that hold a number are its only text.
-use Rattle.std.proofs.Common.{◌≡◌, ℕ, zero, suc, ◌+◌, ◌*◌, ◌/◌, ◌%◌, ◌^◌, ◌<◌, ◌≤◌, min, true, false, eqb, leb, ◌⊎◌, ◌-◌, List, [], ◌∷◌, ◌++◌, length, replicate, refl, ◌∙◌, inl, inr, append_assoc, mul_assoc, mul_comm, arith}
+use Rattle.std.proofs.Common.{◌≡◌, ℕ, zero, suc, ◌+◌, ◌*◌, ◌/◌, ◌%◌, ◌^◌, ◌<◌, ◌≤◌, min, true, false, eqb, ◌⊎◌, ◌-◌, List, [], ◌∷◌, ◌++◌, length, replicate, refl, ◌∙◌, inl, inr, append_assoc, mul_assoc, mul_comm, arith}
 use native.Mathlib.Nat.{pow-succ'}
 use Rattle.std.proofs.Math.Nat.{pow-le-pow_right}
 use Rattle.std.proofs.lemmas.List.{append-nil}
-use Rattle.std.proofs.lemmas.Bool.{cases_eq, and_parts, eqb-true}
+use Rattle.std.proofs.lemmas.List.Folds.{list_all-append}
+use Rattle.std.proofs.lemmas.Bool.{cases_eq, and_parts, eqb-true, false≢true}
 use Rattle.std.proofs.lemmas.Bool.Decides.{nat_tests}
-use Rattle.decimal.specs.Columns.{last_column, columns, is_digit, blank, digits, numeral, digit, value_from, value}
+use Rattle.decimal.specs.Columns.{last_column, columns, is_digit, is_space, blank, digits, numeral, digit, value_from, value}
+
+-- a fact of every number in columns: it holds from the first digit on, and one more space on the left keeps it
+numeral_induction :
+    (P : List ℕ → Type 0)
+    → ((bs : List ℕ) → P bs → P (32 ∷ bs))
+    → ((b : ℕ) (bs : List ℕ) → 49 ≤ b → b ≤ 57 → digits bs ≡ true → P (b ∷ bs))
+    → (bs : List ℕ) → numeral bs ≡ true → P bs
+numeral_induction P space first [] holds = absurd (false≢true holds)
+numeral_induction P space first (b ∷ bs) holds = by_space (cases_eq b 32) (λ inner. numeral_induction P space first bs inner)
+  where
+    by_space : (b ≡ 32) ⊎ (b ≡ 32 → ⊥) → (numeral bs ≡ true → P bs) → P (b ∷ bs)
+    by_space (inl is) rest = rw is (space bs (rest (grind (arith, nat_tests))))
+    by_space (inr other) rest = first b bs (grind (arith, nat_tests)) (grind (arith, nat_tests)) (grind (arith, nat_tests))
 
 -- one more column on the right
 
@@ -14,25 +28,16 @@ value_from_push v [] b = refl
 value_from_push v (x ∷ bs) b = value_from_push (10 * v + digit x) bs b
 
 digits_push : (bs : List ℕ) (b : ℕ) → digits bs ≡ true → is_digit b ≡ true → digits (bs ++ (b ∷ [])) ≡ true
-digits_push [] b before last = grind (arith, nat_tests)
-digits_push (x ∷ bs) b before last =
-    let rest : digits (bs ++ (b ∷ [])) ≡ true = digits_push bs b (and_parts (is_digit x) (digits bs) before).1 last in
-    grind (arith, nat_tests)
+digits_push bs b before last = rw (list_all-append is_digit bs (b ∷ []), before, last) refl
 
 numeral_push : (bs : List ℕ) (b : ℕ) → numeral bs ≡ true → is_digit b ≡ true → numeral (bs ++ (b ∷ [])) ≡ true
-numeral_push [] b before last = grind (arith, nat_tests)
-numeral_push (x ∷ bs) b before last = by_space (cases_eq x 32) (λ inner. numeral_push bs b inner last)
-  where
-    by_space :
-        (x ≡ 32) ⊎ (x ≡ 32 → ⊥) → (numeral bs ≡ true → numeral (bs ++ (b ∷ [])) ≡ true) → numeral ((x ∷ bs) ++ (b ∷ [])) ≡ true
-    by_space (inl space) rest =
-        let inner : numeral bs ≡ true = grind (arith, nat_tests) in
-        let whole : numeral (bs ++ (b ∷ [])) ≡ true = rest inner in
-        grind (arith, nat_tests)
-    by_space (inr other) rest =
-        let inner : digits bs ≡ true = grind (arith, nat_tests) in
-        let whole : digits (bs ++ (b ∷ [])) ≡ true = digits_push bs b inner last in
-        grind (arith, nat_tests)
+numeral_push bs b before last =
+    numeral_induction
+    (λ bs. numeral (bs ++ (b ∷ [])) ≡ true)
+    (λ bs whole. whole)
+    (λ first bs least most after. let whole = digits_push bs b after last in grind (arith, nat_tests))
+    bs
+    before
 
 -- the first digit right of spaces
 numeral_first : (bs : List ℕ) (b : ℕ) → blank bs ≡ true → is_digit b ≡ true → eqb b 48 ≡ false → numeral (bs ++ (b ∷ [])) ≡ true
@@ -42,18 +47,11 @@ numeral_first (x ∷ bs) b before last first =
     let rest : numeral (bs ++ (b ∷ [])) ≡ true = numeral_first bs b parts.1 last first in
     grind (arith, nat_tests)
 
-blank_push : (bs : List ℕ) → blank bs ≡ true → blank (bs ++ (32 ∷ [])) ≡ true
-blank_push [] before = refl
-blank_push (x ∷ bs) before =
-    let parts = and_parts (eqb x 32) (blank bs) before in
-    let rest : blank (bs ++ (32 ∷ [])) ≡ true = blank_push bs parts.1 in
-    grind (arith, nat_tests)
-
 -- what is written is read again
 
 blank-columns : (w : ℕ) → blank (columns w 0) ≡ true
 blank-columns zero = refl
-blank-columns (suc w) = blank_push (columns w 0) (blank-columns w)
+blank-columns (suc w) = rw (list_all-append is_space (columns w 0) (32 ∷ []), blank-columns w) refl
 
 pub numeral-columns : (w v : ℕ) → 0 < v → v < 10 ^ w → numeral (columns w v) ≡ true
 numeral-columns zero v positive small = absurd (omega arith)
@@ -101,7 +99,6 @@ digits_kept :
 digits_kept w v [] positive all = kept_end w v
 digits_kept w v (b ∷ bs) positive all =
     let rest = and_parts (is_digit b) (digits bs) all in
-    let is_digit = and_parts (leb 48 b) (leb b 57) rest.0 in
     kept_more
     w
     v
@@ -112,16 +109,14 @@ digits_kept w v (b ∷ bs) positive all =
     (digits_kept (suc w) (10 * v + digit b) bs (omega arith) rest.1)
 
 numeral_kept : (w : ℕ) (bs : List ℕ) → numeral bs ≡ true → columns (w + length bs) (value bs) ≡ columns w 0 ++ bs
-numeral_kept w [] holds = kept_end w 0
-numeral_kept w (b ∷ bs) holds = by_space (cases_eq b 32) (λ inner. numeral_kept (suc w) bs inner)
-  where
-    by_space :
-        (b ≡ 32) ⊎ (b ≡ 32 → ⊥)
-        → (numeral bs ≡ true → columns (suc w + length bs) (value bs) ≡ columns (suc w) 0 ++ bs)
-        → columns (w + length (b ∷ bs)) (value (b ∷ bs)) ≡ columns w 0 ++ (b ∷ bs)
-    by_space (inl space) rest = rw space (kept_more w 0 32 bs refl refl (rest (grind (arith, nat_tests))))
-    by_space (inr other) rest =
-        kept_more w 0 b bs (grind (arith, nat_tests)) (grind (arith, nat_tests)) (digits_kept (suc w) (10 * 0 + digit b) bs (grind (arith, nat_tests)) (grind (arith, nat_tests)))
+numeral_kept w bs holds =
+    numeral_induction
+    (λ bs. (w : ℕ) → columns (w + length bs) (value bs) ≡ columns w 0 ++ bs)
+    (λ bs kept w. kept_more w 0 32 bs refl refl (kept (suc w)))
+    (λ b bs least most after w. kept_more w 0 b bs (omega arith) (grind (arith, nat_tests)) (digits_kept (suc w) (10 * 0 + digit b) bs (omega arith) after))
+    bs
+    holds
+    w
 
 pub columns-value : (bs : List ℕ) → numeral bs ≡ true → columns (length bs) (value bs) ≡ bs
 columns-value bs holds = let all = numeral_kept 0 bs holds in let count : 0 + length bs ≡ length bs = omega arith in rw count at all
@@ -143,27 +138,18 @@ digits_below limit v (b ∷ bs) below all =
     omega arith
 
 pub value_above : (bs : List ℕ) → numeral bs ≡ true → 0 < value bs
-value_above [] holds = grind (arith, nat_tests)
-value_above (b ∷ bs) holds = by_space (cases_eq b 32) (λ inner. value_above bs inner)
-  where
-    by_space : (b ≡ 32) ⊎ (b ≡ 32 → ⊥) → (numeral bs ≡ true → 0 < value bs) → 0 < value (b ∷ bs)
-    by_space (inl space) rest = rw space (rest (grind (arith, nat_tests)))
-    by_space (inr other) rest =
-        let first : 0 < 10 * 0 + digit b = grind (arith, nat_tests) in
-        omega (arith, value_from_at_least (10 * 0 + digit b) bs)
+value_above =
+    numeral_induction
+    (λ bs. 0 < value bs)
+    (λ bs above. above)
+    (λ b bs least most after. omega (arith, value_from_at_least (10 * 0 + digit b) bs))
 
 pub value_below : (bs : List ℕ) → numeral bs ≡ true → value bs < 10 ^ length bs
-value_below [] holds = grind (arith, nat_tests)
-value_below (b ∷ bs) holds = by_space (cases_eq b 32) (λ inner. value_below bs inner)
-  where
-    wider : 10 ^ suc (length bs) ≡ 10 * 10 ^ length bs
-    wider = pow-succ' 10 (length bs)
-
-    by_space : (b ≡ 32) ⊎ (b ≡ 32 → ⊥) → (numeral bs ≡ true → value bs < 10 ^ length bs) → value (b ∷ bs) < 10 ^ suc (length bs)
-    by_space (inl space) rest = rw space (omega (arith, rest (grind (arith, nat_tests)), wider))
-    by_space (inr other) rest =
-        let one : 10 * 0 + digit b < 10 = grind (arith, nat_tests) in
-        omega (arith, digits_below 10 (10 * 0 + digit b) bs one (grind (arith, nat_tests)), wider)
+value_below =
+    numeral_induction
+    (λ bs. value bs < 10 ^ length bs)
+    (λ bs below. omega (arith, below, pow-succ' 10 (length bs)))
+    (λ b bs least most after. omega (arith, digits_below 10 (10 * 0 + digit b) bs (omega arith) after, pow-succ' 10 (length bs)))
 
 -- nine columns of a number are below the largest u32
 pub value_fits : (bs : List ℕ) → numeral bs ≡ true → length bs ≤ 9 → min (value bs) (2 ^ 32 - 1) ≡ value bs
