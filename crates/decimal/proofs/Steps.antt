@@ -1,7 +1,7 @@
 -- One column more: what the columns from one place on are, and what is written from the right.
-use Rattle.std.proofs.Common.{◌≡◌, ℕ, suc, ◌+◌, ◌-◌, ◌*◌, ◌/◌, ◌^◌, ◌<◌, min, Bool, true, false, cond, not, ◌&&◌, eqb, List, [], ◌∷◌, ◌++◌, length, get_or, take, drop, reverse, set, fold, refl, append_assoc, arith}
-use Rattle.std.proofs.lemmas.List.{at_drop_more, reverse-append, take_more_set}
-use Rattle.decimal.specs.Columns.{last_column, columns, digits, numeral, is_digit, digit, value_from}
+use Rattle.std.proofs.Common.{◌≡◌, ℕ, suc, ◌+◌, ◌-◌, ◌*◌, ◌/◌, ◌^◌, ◌<◌, min, List, [], ◌∷◌, ◌++◌, length, take, reverse, set, fold, refl, append_assoc, arith}
+use Rattle.std.proofs.lemmas.List.{reverse-append, take_more_set}
+use Rattle.decimal.specs.Columns.{last_column, columns, digit, value_from}
 
 -- a number in columns, of which so many are written, the right one first
 pub written_more :
@@ -14,19 +14,6 @@ written_more width value count written more within =
     rw
     (one, take_more_set written count (last_column value) within, reverse-append (take count written) (last_column value ∷ []))
     (append_assoc (columns (width - (count + 1)) (value / 10)) (last_column value ∷ []) (reverse (take count written)))
-
--- what is still owed of the columns to come: digits only once the number has begun, else a numeral
-abbrev pub owed : Bool → List ℕ → Bool
-owed true xs = digits xs
-owed false xs = numeral xs
-
-abbrev pub owed_cons : Bool → ℕ → List ℕ → Bool
-owed_cons true b xs = is_digit b && digits xs
-owed_cons false b xs = cond (eqb b 32) (numeral xs) (is_digit b && (not (eqb b 48) && digits xs))
-
-pub owed_more : (begun : Bool) (xs : List ℕ) (i : ℕ) → i < length xs → owed begun (drop i xs) ≡ owed_cons begun (get_or xs i 0) (drop (i + 1) xs)
-owed_more true xs i within = at_drop_more digits xs i 0 within
-owed_more false xs i within = at_drop_more numeral xs i 0 within
 
 -- one more column of a number that is at most the largest u32
 abbrev pub capped_push : ℕ → ℕ → ℕ

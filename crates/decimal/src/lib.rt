@@ -2,7 +2,7 @@
 #![tactic(auto)]
 
 ghost use Rattle.std.specs.Prelude.{◌≡◌, ◌-◌, ◌^◌, min};
-ghost use Rattle.decimal.specs.Columns.{blank, columns as columns_of, digit as digit_of, is_space, last_column, may_follow, numeral, value as value_of};
+ghost use Rattle.decimal.specs.Columns.{blank, columns as columns_of, digit as digit_of, digits, last_column, numeral, value as value_of};
 
 // The column furthest right of a number, a space where nothing is left to write.
 pub fn last_column(value: u32) -> u8
@@ -50,37 +50,26 @@ pub fn value(columns: &[u8]) -> u32
 pub fn is_blank(columns: &[u8]) -> bool
     ensures { result ≡ blank columns.now }
 {
-    columns.iter().all(|column| is_space(*column))
+    columns.iter().all(|column| *column == b' ')
 }
 
-fn is_space(column: u8) -> bool
-    ensures { result ≡ is_space column }
+// Whether the columns hold nothing but digits.
+fn are_digits(columns: &[u8]) -> bool
+    ensures { result ≡ digits columns.now }
 {
-    column == b' '
-}
-
-// Whether a column may stand right of others: a space before the number has begun, 0 only after.
-fn may_follow(begun: bool, column: u8) -> bool
-    ensures { result ≡ may_follow begun column }
-{
-    match column {
-        b' ' => !begun,
-        b'0' => begun,
-        b'1'..=b'9' => true,
-        _ => false,
-    }
+    columns.iter().all(u8::is_ascii_digit)
 }
 
 // Whether the columns hold a number, right-justified and with no leading zero.
 pub fn is_numeral(columns: &[u8]) -> bool
     ensures { result ≡ numeral columns.now }
 {
-    let mut begun = false;
-    for column in columns {
-        if !may_follow(begun, *column) {
-            return false;
-        }
-        begun = !is_space(*column);
+    let mut number = columns;
+    while let [b' ', rest @ ..] = number {
+        number = rest;
     }
-    begun
+    match number {
+        [b'1'..=b'9', digits @ ..] => are_digits(digits),
+        _ => false,
+    }
 }

@@ -1,8 +1,10 @@
-use Rattle.std.proofs.Common.{◌≡◌, drop}
+use Rattle.std.proofs.Common.{◌≡◌, length}
 use Rattle.decimal.specs.Columns.{numeral}
-use Rattle.decimal.proofs.Steps.{owed}
 use Rattle.decimal.proofs.is_numeral.Given as goal
 
--- the columns still to come decide
-abbrev pub invariant-loop-column : goal.invariant-loop-column
-invariant-loop-column l = owed l.begun (drop l.column-index l.columns) ≡ numeral l.columns
+-- spaces on the left change nothing
+abbrev pub invariant-loop-number : goal.invariant-loop-number
+invariant-loop-number l = numeral l.number ≡ numeral l.columns
+
+abbrev pub decreases-loop-number : goal.decreases-loop-number
+decreases-loop-number l = length l.number
