@@ -1,12 +1,12 @@
-use Rattle.std.proofs.Common.{◌∙◌, arith}
-use Rattle.std.proofs.lemmas.List.{length-set}
+use Rattle.std.proofs.Common.{◌∙◌, rules, arith}
 use Rattle.decimal.proofs.Steps.{written_more}
 use Rattle.decimal.proofs.columns.Goals as goal
 
 pub loop-column-preserved : goal.loop-column-preserved
 loop-column-preserved g c =
-    let before = c.loop-column.invariant in
+    let before = c.loop-column in
+    let more = c.loop-column-test.true in
     record {
-      wide = length-set c.loop-column.column-items c.loop-column.column-index c.last_column.result ∙ before.wide;
-      whole = rw c.last_column.ensures (before.whole ∙ written_more g.row.WIDTH c.loop-column.rest c.loop-column.column-index c.loop-column.column-items c.loop-column-test.true (omega (arith, before.wide, c.loop-column-test.true)));
+      wide = search rules;
+      whole = rw c.last_column.ensures (before.invariant.whole ∙ written_more g.row.WIDTH before.rest before.column-index before.column-items more (omega (arith, before.invariant.wide, more)));
     }
