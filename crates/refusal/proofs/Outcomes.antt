@@ -1,5 +1,5 @@
 -- What a refused call leaves, and how a call whose tests are made in parts answers.
-use Rattle.std.proofs.Common.{◌≡◌, ℕ, Bool, true, false, cond, List, [], ◌∷◌, ◌++◌, Ok, Err, Result, sym, refl, ap, ◌∙◌, subst, arith}
+use Rattle.std.proofs.Common.{◌≡◌, ℕ, true, false, List, [], ◌∷◌, ◌++◌, Ok, Err, Result, refl}
 use Rattle.refusal.specs.declared.cases.Refusal.{Refusal}
 use Rattle.refusal.specs.Numbers.{number}
 use Rattle.refusal.specs.Answers.{Test, answer, by_number, on_ok, WhenGood}
@@ -7,27 +7,20 @@ use Rattle.refusal.specs.Answers.{Test, answer, by_number, on_ok, WhenGood}
 -- what a refused call leaves is what was there
 pub stays :
     {T E U : Type 0} (r : Result T E) (e : E) (left good before : U) → r ≡ Err e → left ≡ before → left ≡ on_ok r good before
-stays {T} {E} r e left good before refused same = same ∙ sym (ap (λ (q : Result T E). on_ok q good before) refused)
+stays r e left good before refused same = rw refused same
 
 -- of a refused call nothing is claimed
 pub unclaimed : {T E : Type 0} (r : Result T E) (e : E) (fact : Type 0) → r ≡ Err e → WhenGood r fact
-unclaimed {T} {E} r e fact refused = subst (λ (q : Result T E). WhenGood q fact) (sym refused) tt
+unclaimed r e fact refused = rw refused tt
 
 -- a refusal by the first tests is one by all of them
 pub refused_early :
     {T : Type 0} (first later : List Test) (value : T) (n : ℕ)
     → Err n ≡ answer first (tt {0})
     → Err n ≡ answer (first ++ later) value
-refused_early [] later value n refused = absurd (let no_such : ◌≡◌ {A = ℕ} 0 1 = cc in omega arith)
-refused_early {T} (test ∷ first) later value n refused = by_test test.0 refused (refused_early first later value n)
-  where
-    by_test :
-        (fits : Bool)
-        → Err n ≡ cond fits (Err test.1) (answer first (tt {0}))
-        → (Err n ≡ answer first (tt {0}) → Err n ≡ answer (first ++ later) value)
-        → Err n ≡ cond fits (Err test.1) (answer (first ++ later) value)
-    by_test true here after = let same : n ≡ test.1 = cc in ap {B = Result T ℕ} Err same
-    by_test false here after = after here
+refused_early [] later value n refused = cc
+refused_early ((true, m) ∷ first) later value n refused = cc
+refused_early ((false, m) ∷ first) later value n refused = refused_early first later value n refused
 
 -- where the first tests pass, the later ones answer
 pub passed_early :
@@ -35,15 +28,8 @@ pub passed_early :
     → Ok (tt {0}) ≡ answer first (tt {0})
     → answer (first ++ later) value ≡ answer later value
 passed_early [] later value passed = refl
-passed_early {T} (test ∷ first) later value passed = by_test test.0 passed (passed_early first later value)
-  where
-    by_test :
-        (fits : Bool)
-        → Ok (tt {0}) ≡ cond fits (Err test.1) (answer first (tt {0}))
-        → (Ok (tt {0}) ≡ answer first (tt {0}) → answer (first ++ later) value ≡ answer later value)
-        → cond fits (Err test.1) (answer (first ++ later) value) ≡ answer later value
-    by_test true here after = absurd (let no_such : ◌≡◌ {A = ℕ} 0 1 = cc in omega arith)
-    by_test false here after = after here
+passed_early ((true, m) ∷ first) later value passed = cc
+passed_early ((false, m) ∷ first) later value passed = passed_early first later value passed
 
 -- what a call claims: its answer, what it leaves, and what holds where it was good
 abbrev pub Claims : {T U : Type 0} → Result T Refusal → Result T ℕ → U → U → U → Type 0 → Type 0
@@ -64,12 +50,15 @@ pub refused_exit :
     → left ≡ before
     → Claims result (answer (first ++ later) value) left good before fact
 refused_exit {T} result out refusal first later value left good before fact is same refused unchanged =
+    rw
+    is
+    (
     record {
-      answers =
-          ap by_number (is ∙ ap {B = Result T Refusal} Err same) ∙ refused_early first later value (number refusal) refused;
-      leaves = stays result out left good before is unchanged;
-      holds = unclaimed result out fact is;
+      answers = rw same (refused_early first later value (number refusal) refused);
+      leaves = unchanged;
+      holds = tt;
     }
+    )
 
 -- the exit of a call whose first tests passed, and whose last part makes the claims
 pub passed_exit :
@@ -79,8 +68,4 @@ pub passed_exit :
     → Claims result (answer later value) left good before fact
     → Claims result (answer (first ++ later) value) left good before fact
 passed_exit result first later value left good before fact passed claims =
-    record {
-      answers = claims.answers ∙ sym (passed_early first later value passed);
-      leaves = claims.leaves;
-      holds = claims.holds;
-    }
+    rw (passed_early first later value passed) claims
