@@ -1,4 +1,4 @@
--- One column more: what the columns from one place on are, and what is written from the right.
+-- One column more: written from the right, and read into a number of at most the largest u32.
 use Rattle.std.proofs.Common.{◌≡◌, ℕ, suc, ◌+◌, ◌-◌, ◌*◌, ◌/◌, ◌^◌, ◌<◌, min, List, [], ◌∷◌, ◌++◌, length, take, reverse, set, fold, refl, append_assoc, arith}
 use Rattle.std.proofs.lemmas.List.{reverse-append, take_more_set}
 use Rattle.decimal.specs.Columns.{last_column, columns, digit, value_from}

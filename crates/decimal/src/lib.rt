@@ -41,7 +41,7 @@ pub fn digit(column: u8) -> u32
 pub fn value(columns: &[u8]) -> u32
     ensures { result ≡ min (value_of columns.now) (2 ^ 32 - 1) }
 {
-    columns.iter().fold(0u32, |value, column| {
+    columns.iter().fold(0, |value, column| {
         value.saturating_mul(10).saturating_add(digit(*column))
     })
 }
