@@ -1,11 +1,7 @@
 -- What writing a sector where it lies makes of a flat memory.
-use Rattle.std.proofs.Common.{◌≡◌, ℕ, ◌-◌, ◌*◌, Bool, true, false, cond, eqb, List, length, sym, ap, ◌∙◌, subst, ⊎_elim, arith}
-use borrow.Rule.Slice.PartMut.{put_mid}
+use Rattle.std.proofs.Common.{◌≡◌, ℕ, ◌*◌, Bool, true, false, cond, eqb, List, length, sym, ap, ◌∙◌, subst, ⊎_elim}
 use lib.Seq.{paste}
-use Rattle.std.proofs.lemmas.Slice.{put_mid-paste}
 use Rattle.std.proofs.lemmas.Bool.{cases_Bool}
-use Rattle.std.proofs.lemmas.Bool.Decides.{nat_tests}
-use Rattle.std.specs.declared.ops.Range.{Range}
 use Rattle.sheet.specs.declared.geometry.Geometry.{Geometry}
 use Rattle.sheet.specs.Sectors.{can_program, listed, programmed}
 use Rattle.sheet.specs.Flat.{flat_fit, flat_sector, flat_sectors, flat_programmed}
@@ -14,7 +10,6 @@ use Rattle.sheet.proofs.Overwrites.{length-overwritten, part_overwritten, part_k
 use Rattle.sheet.proofs.Sectors.{can_program_parts}
 use Rattle.sheet.proofs.Listed.{Rewrites, listed-programmed}
 use Rattle.sheet.proofs.FlatSectors.{sector_within}
-use Rattle.sheet.proofs.FlatSpans.{LiesAt}
 
 -- the memory after a sector's bytes were written where the sector lies
 abbrev pub written : Geometry → List ℕ → ℕ → List ℕ → List ℕ
@@ -90,19 +85,3 @@ flat_programs g memory s bytes = record { stays = stays; leaves = leaves }
         (sym (programmed_written g memory s bytes can))
         (sectors_written g memory s bytes can))
         (λ cannot. ap (flat_sector g.size) (programmed_kept g memory s bytes cannot))
-
--- bytes that were written to a sector's span are programmed
-pub span_programmed :
-    (g : Geometry) (memory now bytes : List ℕ) (s : ℕ) (span : Range ℕ)
-    → LiesAt g memory s span
-    → now ≡ bytes
-    → length bytes ≡ g.size
-    → put_mid span.start (span.end - span.start) memory now ≡ flat_programmed g memory s bytes
-span_programmed g memory now bytes s span lies is count =
-    let width : span.end - span.start ≡ g.size = omega (arith, lies.start, lies.end) in
-    let fits = lies.fits in
-    let below = lies.below in
-    let can : can_program g (flat_fit g memory) s bytes ≡ true = grind (arith, nat_tests) in
-    put_mid-paste span.start (span.end - span.start) memory now bytes g.size is (sym width) (sym count)
-    ∙ ap (λ (start : ℕ). paste memory start bytes g.size) lies.start
-    ∙ sym (programmed_written g memory s bytes can)

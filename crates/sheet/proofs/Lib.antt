@@ -3,5 +3,4 @@ pub mod Overwrites
 pub mod Sectors
 pub mod Listed
 mod FlatSectors
-mod FlatSpans
 mod FlatPrograms

@@ -1,6 +1,8 @@
 -- Sheets that keep each sector in some way: what is to show of that way, for what every sheet owes.
 use Rattle.std.proofs.Common.{◌≡◌, ℕ, ◌<◌, Bool, true, false, cond, List, [], length, get_or, set, sym, refl, ap, ◌∙◌, ap₂, ⊎_elim, arith}
 use Rattle.std.proofs.lemmas.List.FromFn.{length-map-range_with_len, get_or-map-range_with_len}
+use Rattle.std.specs.Prelude.{◌&&◌, nat_lt}
+use Rattle.std.proofs.lemmas.List.{get_or_past}
 use Rattle.std.proofs.lemmas.Bool.{cases_Bool}
 use Rattle.std.proofs.lemmas.Bool.Decides.{nat_tests}
 use Rattle.sheet.specs.declared.geometry.Geometry.{Geometry}
@@ -22,14 +24,12 @@ listed_shaped g true sector whole =
     (length-listed g true sector, all_map_counting (λ (bytes : List ℕ). length bytes ≡ g.size) sector g.sectors (whole refl))
 listed_shaped g false sector whole = (refl, tt {0})
 
--- a sector of a fit sheet is as it is kept
+-- a sector that is there is as it is kept, and there is none past the end or on an unfit sheet
 pub listed_there :
     (g : Geometry) (fit : Bool) (sector : ℕ → List ℕ) (s : ℕ)
-    → fit ≡ true
-    → s < g.sectors
-    → get_or (listed g fit sector) s [] ≡ sector s
-listed_there g true sector s fits below = get_or-map-range_with_len sector 0 g.sectors s s [] below (omega arith)
-listed_there g false sector s fits below = grind (arith, nat_tests)
+    → get_or (listed g fit sector) s [] ≡ cond (fit && nat_lt s g.sectors) (sector s) []
+listed_there g true sector s = grind (arith, nat_tests, length-map-range_with_len, get_or-map-range_with_len, get_or_past)
+listed_there g false sector s = refl
 
 -- a second way of keeping sectors has some bytes as sector s, and every other sector as the first way has it
 abbrev pub Rewrites : Geometry → (ℕ → List ℕ) → (ℕ → List ℕ) → ℕ → List ℕ → Type 0

@@ -1,5 +1,5 @@
 // The flat sheet: lent memory in which the sectors lie one after another.
-ghost use Rattle.std.specs.Prelude.{◌≡◌};
+ghost use Rattle.std.specs.Prelude.{◌≡◌, ◌≤◌, IfSome, length};
 ghost use Rattle.sheet.specs.Flat.{HoldsSectors, flat_fit, flat_programmed, flat_sectors, flat_span};
 ghost use Rattle.sheet.specs.Sectors.{programmed};
 
@@ -22,19 +22,12 @@ impl<'a> Flat<'a> {
     }
 
     // Ends the sheet and gives its memory back.
+    #[tactic(auto, using(crate::proofs::FlatSectors::holds_sectors))]
     pub fn into_memory(self) -> &'a mut [u8]
         ensures holds { result.now ≡ self.entry.memory.now }
         ensures sectors { HoldsSectors result.now }
     {
-        self.lent()
-    }
-
-    // Takes the memory out of the sheet; `into_memory` says what it means as sectors.
-    fn lent(self) -> &'a mut [u8]
-        ensures { result.now ≡ self.entry.memory.now }
-    {
-        let Flat { memory } = self;
-        memory
+        self.memory
     }
 }
 
@@ -47,15 +40,13 @@ impl<'a, K: Kind> Sheet<K> for Flat<'a> {
         fits::<K>(self.memory)
     }
 
+    #[tactic(auto, using(crate::proofs::Listed::listed_there))]
     fn read(&self, sector: usize, byte: usize) -> u8 {
         let Some(span) = span::<K>(self.memory, sector) else {
             return 0xFF;
         };
-        if byte < K::sector_size() {
-            self.memory[span.start + byte]
-        } else {
-            0xFF
-        }
+        let bytes = &self.memory[span];
+        bytes.get(byte).copied().unwrap_or(0xFF)
     }
 
     // The clauses `stays` and `leaves` are the trait's, which a clause of one's own has to stand beside; `memory` says more:
@@ -76,7 +67,7 @@ fn write_sector<K: Kind>(memory: &mut [u8], sector: usize, bytes: &[u8])
     let Some(span) = span::<K>(memory, sector) else {
         return;
     };
-    if bytes.len() == K::sector_size() {
+    if bytes.len() == K::Z {
         memory[span].copy_from_slice(bytes);
     }
 }
@@ -85,16 +76,17 @@ fn write_sector<K: Kind>(memory: &mut [u8], sector: usize, bytes: &[u8])
 fn fits<K: Kind>(memory: &[u8]) -> bool
     ensures { result ≡ flat_fit K.Kind.geometry memory.now }
 {
-    memory.len() == K::sectors() * K::sector_size()
+    memory.len() == K::N * K::Z
 }
 
 // Where a sector lies in a memory, if it is there.
 fn span<K: Kind>(memory: &[u8], sector: usize) -> Option<Range<usize>>
-    ensures { result ≡ flat_span K.Kind.geometry memory.now sector }
+    ensures span { result ≡ flat_span K.Kind.geometry memory.now sector }
+    ensures within { IfSome result (λ span. span.end ≤ length memory.now) }
 {
-    if !fits::<K>(memory) || sector >= K::sectors() {
+    if !fits::<K>(memory) || sector >= K::N {
         return None;
     }
-    let start = sector * K::sector_size();
-    Some(start..start + K::sector_size())
+    let start = sector * K::Z;
+    Some(start..start + K::Z)
 }
