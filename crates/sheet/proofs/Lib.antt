@@ -1,4 +1,3 @@
-pub mod Indexed
 pub mod Overwrites
 pub mod Sectors
 pub mod Listed

@@ -1,8 +1,6 @@
 -- What the sectors of any sheet are, and what a program makes of them.
-use Rattle.std.proofs.Common.{◌≡◌, ℕ, ◌<◌, ◌≤◌, Bool, true, false, cond, List, [], length, get_or, set, ap, ⊎_elim, arith}
-use Rattle.std.proofs.ByRecursion.{All-get_or}
+use Rattle.std.proofs.Common.{◌≡◌, ℕ, ◌<◌, ◌≤◌, Bool, true, false, cond, List, [], length, get_or, set, arith}
 use Rattle.std.proofs.lemmas.List.{get_or_past, set_past}
-use Rattle.std.proofs.lemmas.Bool.{cases_lt}
 use Rattle.std.proofs.lemmas.Bool.Decides.{nat_tests}
 use Rattle.sheet.specs.declared.geometry.Geometry.{Geometry}
 use Rattle.sheet.specs.Sectors.{Shaped, byte_at, can_program, programmed}
@@ -13,8 +11,7 @@ pub length_shaped_sector :
     → Shaped g fit sectors
     → s < length sectors
     → length (get_or sectors s []) ≡ g.size
-length_shaped_sector g fit sectors s shaped there =
-    All-get_or (λ (sector : List ℕ). length sector ≡ g.size) sectors s [] there shaped.1
+length_shaped_sector g fit sectors s shaped there = shaped.1 s [] there
 
 -- nothing is read past the end of a sector, there or not
 pub no_byte_past :
@@ -22,12 +19,7 @@ pub no_byte_past :
     → Shaped g fit sectors
     → g.size ≤ b
     → byte_at sectors s b ≡ 255
-no_byte_past g fit sectors s b shaped past =
-    ⊎_elim
-    (λ (there : s < length sectors).
-    get_or_past (get_or sectors s []) b 255 (omega (arith, length_shaped_sector g fit sectors s shaped there, past)))
-    (λ (missing : length sectors ≤ s). ap (λ (sector : List ℕ). get_or sector b 255) (get_or_past sectors s [] missing))
-    (cases_lt s (length sectors))
+no_byte_past g fit sectors s b shaped past = grind (arith, get_or_past)
 
 -- what can be programmed
 pub can_program_parts :

@@ -1,11 +1,11 @@
 -- What a sheet means: whether it is fit, and the bytes of each of its sectors; an unfit one has no sectors.
 use Rattle.std.specs.Prelude.{◌≡◌, ℕ, Bool, cond, ◌&&◌, List, [], map, length, ◌==◌, nat_lt, slice_index_or, slice_set}
-use Rattle.std.specs.List.{range_with_len, AllByRecursion}
+use Rattle.std.specs.List.{All, range_with_len}
 use Rattle.sheet.specs.declared.geometry.Geometry.{Geometry}
 
 -- a fit sheet has all the sectors of its kind, an unfit one has none, and each sector has all its bytes
 abbrev pub Shaped : Geometry → Bool → List (List ℕ) → Type 0
-Shaped g fit sectors = (length sectors ≡ cond fit g.sectors 0) × AllByRecursion (λ s. length s ≡ g.size) sectors
+Shaped g fit sectors = (length sectors ≡ cond fit g.sectors 0) × All (λ s. length s ≡ g.size) sectors
 
 -- the sectors of a sheet that keeps each sector in some way: all of them where it is fit, none where it is not
 abbrev pub listed : Geometry → Bool → (ℕ → List ℕ) → List (List ℕ)

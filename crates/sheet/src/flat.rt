@@ -27,7 +27,27 @@ impl<'a> Flat<'a> {
         ensures holds { result.now ≡ self.entry.memory.now }
         ensures sectors { HoldsSectors result.now }
     {
-        self.memory
+        let Flat { memory } = self;
+        memory
+    }
+
+    // Whether the memory has the bytes of all sectors and no more.
+    fn fits<K: Kind>(&self) -> bool
+        ensures { result ≡ flat_fit K.Kind.geometry self.now.memory.now }
+    {
+        self.memory.len() == K::N * K::Z
+    }
+
+    // Where a sector lies in the memory, if it is there.
+    fn span<K: Kind>(&self, sector: usize) -> Option<Range<usize>>
+        ensures span { result ≡ flat_span K.Kind.geometry self.now.memory.now sector }
+        ensures within { IfSome result (λ span. span.end ≤ length self.now.memory.now) }
+    {
+        if !self.fits::<K>() || sector >= K::N {
+            return None;
+        }
+        let start = sector * K::Z;
+        Some(start..start + K::Z)
     }
 }
 
@@ -37,12 +57,12 @@ impl<'a, K: Kind> Sheet<K> for Flat<'a> {
     ghost sectors = { λ s. flat_sectors K.Kind.geometry s.memory.now };
 
     fn is_fit(&self) -> bool {
-        fits::<K>(self.memory)
+        self.fits::<K>()
     }
 
     #[tactic(auto, using(crate::proofs::Listed::listed_there))]
     fn read(&self, sector: usize, byte: usize) -> u8 {
-        let Some(span) = span::<K>(self.memory, sector) else {
+        let Some(span) = self.span::<K>(sector) else {
             return 0xFF;
         };
         let bytes = &self.memory[span];
@@ -51,42 +71,17 @@ impl<'a, K: Kind> Sheet<K> for Flat<'a> {
 
     // The clauses `stays` and `leaves` are the trait's, which a clause of one's own has to stand beside; `memory` says more:
     // where nothing is programmed even a memory that is not fit is as it was.
+    #[tactic(auto, using(crate::proofs::FlatPrograms::flat_programs))]
     fn program(&mut self, sector: usize, bytes: &[u8])
         ensures stays { flat_fit K.Kind.geometry self.new.memory.now ≡ flat_fit K.Kind.geometry self.old.memory.now }
         ensures leaves { flat_sectors K.Kind.geometry self.new.memory.now ≡ programmed K.Kind.geometry (flat_sectors K.Kind.geometry self.old.memory.now) sector bytes.now }
         ensures memory { self.new.memory.now ≡ flat_programmed K.Kind.geometry self.old.memory.now sector bytes.now }
     {
-        write_sector::<K>(self.memory, sector, bytes);
+        let Some(span) = self.span::<K>(sector) else {
+            return;
+        };
+        if bytes.len() == K::Z {
+            self.memory[span].copy_from_slice(bytes);
+        }
     }
-}
-
-// Writes a whole sector's bytes where the sector lies, if it is there.
-fn write_sector<K: Kind>(memory: &mut [u8], sector: usize, bytes: &[u8])
-    ensures { memory.new ≡ flat_programmed K.Kind.geometry memory.old sector bytes.now }
-{
-    let Some(span) = span::<K>(memory, sector) else {
-        return;
-    };
-    if bytes.len() == K::Z {
-        memory[span].copy_from_slice(bytes);
-    }
-}
-
-// Whether a memory has the bytes of all sectors and no more.
-fn fits<K: Kind>(memory: &[u8]) -> bool
-    ensures { result ≡ flat_fit K.Kind.geometry memory.now }
-{
-    memory.len() == K::N * K::Z
-}
-
-// Where a sector lies in a memory, if it is there.
-fn span<K: Kind>(memory: &[u8], sector: usize) -> Option<Range<usize>>
-    ensures span { result ≡ flat_span K.Kind.geometry memory.now sector }
-    ensures within { IfSome result (λ span. span.end ≤ length memory.now) }
-{
-    if !fits::<K>(memory) || sector >= K::N {
-        return None;
-    }
-    let start = sector * K::Z;
-    Some(start..start + K::Z)
 }

@@ -1,15 +1,7 @@
-use Rattle.std.proofs.Common.{ap, ◌∙◌}
-use Rattle.sheet.specs.Flat.{flat_fit, flat_sectors}
+use Rattle.std.proofs.Common.{arith}
+use Rattle.std.proofs.lemmas.Grind.{common_steps}
 use Rattle.sheet.proofs.FlatPrograms.{flat_programs}
 use Rattle.sheet.proofs.flat.FlatSheet.program.Goals as goal
 
-pub returns : goal.returns
-returns g c =
-    let geometry = g.K.Kind.geometry in
-    let after = c.write_sector.ensures in
-    let programs = flat_programs geometry c.args.self.now.memory.now c.args.sector c.args.bytes.now in
-    record {
-      stays = ap (flat_fit geometry) after ∙ programs.stays;
-      leaves = ap (flat_sectors geometry) after ∙ programs.leaves;
-      memory = after;
-    }
+pub returns-then-bytes-Z-clause-leaves : goal.returns-then-bytes-Z-clause-leaves
+returns-then-bytes-Z-clause-leaves g c = flat_programs g.K.Kind.geometry _ _ c.args.sector c.args.bytes.now (grind (arith, common_steps))
