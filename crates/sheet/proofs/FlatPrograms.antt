@@ -8,7 +8,7 @@ use Rattle.sheet.specs.Sectors.{programmed}
 use Rattle.sheet.specs.Flat.{flat_fit, flat_sector, flat_sectors, flat_programmed}
 use Rattle.sheet.proofs.Overwrites.{part_overwritten, part_kept, widths_apart}
 use Rattle.sheet.proofs.Listed.{Rewrites, listed-programmed}
-use Rattle.sheet.proofs.FlatSectors.{sector_within}
+use Rattle.sheet.specs.Shapes.{sector_within}
 
 -- bytes that are written where a sector lies are that sector's, and every other sector is as before
 pub sectors_written :

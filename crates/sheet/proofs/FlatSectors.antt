@@ -1,13 +1,10 @@
 -- The sectors of a flat memory: how many there are, how long they are, and that they are all of it.
-use Rattle.std.proofs.Common.{◌≡◌, ℕ, zero, suc, ◌+◌, ◌*◌, ◌<◌, ◌≤◌, true, List, map, length, take, drop, arith, take-add}
+use Rattle.std.proofs.Common.{◌≡◌, ℕ, zero, suc, ◌+◌, ◌*◌, List, map, take, drop, arith, take-add}
 use Rattle.std.specs.List.{range_with_len, flat_map}
 use Rattle.std.proofs.lemmas.List.{drop-drop, take_all}
 use Rattle.std.proofs.lemmas.Bool.Decides.{nat_tests}
-use Rattle.std.proofs.lemmas.Grind.{common_steps, rows}
-use Rattle.sheet.specs.declared.geometry.Geometry.{Geometry}
-use Rattle.sheet.specs.Sectors.{Shaped}
-use Rattle.sheet.specs.Flat.{HoldsSectors, flat_fit, flat_sector, flat_sectors}
-use Rattle.sheet.proofs.Listed.{listed_shaped}
+use Rattle.std.proofs.lemmas.Grind.{common_steps}
+use Rattle.sheet.specs.Flat.{HoldsSectors, flat_sector}
 
 -- some sectors of a memory one after another are a part of it
 pub joined_sectors :
@@ -25,20 +22,3 @@ pub holds_sectors : (memory : List ℕ) → HoldsSectors memory
 holds_sectors memory g fits =
     let all = joined_sectors g.size memory 0 g.sectors in
     grind (arith, nat_tests, take_all)
-
--- each sector lies within it
-pub sector_within :
-    (g : Geometry) (memory : List ℕ) (s : ℕ)
-    → flat_fit g memory ≡ true
-    → s < g.sectors
-    → s * g.size + g.size ≤ length memory
-sector_within g memory s fits below = grind (arith, nat_tests, rows)
-
--- a flat sheet has the shape of a sheet
-pub flat_shaped : (g : Geometry) (memory : List ℕ) → Shaped g (flat_fit g memory) (flat_sectors g memory)
-flat_shaped g memory =
-    listed_shaped
-    g
-    (flat_fit g memory)
-    (flat_sector g.size memory)
-    (λ fits s below. let within = sector_within g memory s fits below in grind (arith, common_steps))

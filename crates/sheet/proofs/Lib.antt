@@ -1,5 +1,4 @@
 pub mod Overwrites
-pub mod Sectors
 pub mod Listed
 mod FlatSectors
 mod FlatPrograms

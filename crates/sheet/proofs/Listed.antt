@@ -7,7 +7,7 @@ use Rattle.std.proofs.lemmas.Bool.{cases_Bool}
 use Rattle.std.proofs.lemmas.Bool.Decides.{nat_tests}
 use Rattle.std.proofs.lemmas.Grind.{common_steps}
 use Rattle.sheet.specs.declared.geometry.Geometry.{Geometry}
-use Rattle.sheet.specs.Sectors.{Shaped, can_program, listed, programmed}
+use Rattle.sheet.specs.Sectors.{can_program, listed, programmed}
 
 -- how many sectors are listed
 pub length-listed : (g : Geometry) (fit : Bool) (sector : ℕ → List ℕ) → length (listed g fit sector) ≡ cond fit g.sectors 0
@@ -20,15 +20,6 @@ pub listed_there :
     → get_or (listed g fit sector) s [] ≡ cond (fit && nat_lt s g.sectors) (sector s) []
 listed_there g true sector s = grind (arith, nat_tests, get_or_past, length-map-range_with_len, get_or-map-range_with_len)
 listed_there g false sector s = refl
-
--- sectors that have all their bytes are those of a sheet
-pub listed_shaped :
-    (g : Geometry) (fit : Bool) (sector : ℕ → List ℕ)
-    → (fit ≡ true → (s : ℕ) → s < g.sectors → length (sector s) ≡ g.size)
-    → Shaped g fit (listed g fit sector)
-listed_shaped g true sector whole =
-    (length-listed g true sector, λ s d there. grind (arith, length-map-range_with_len, get_or-map-range_with_len))
-listed_shaped g false sector whole = (refl, λ s d there. grind arith)
 
 -- a second way of keeping sectors has some bytes as sector s, and every other sector as the first way has it
 abbrev pub Rewrites : Geometry → (ℕ → List ℕ) → (ℕ → List ℕ) → ℕ → List ℕ → Type 0

@@ -1,3 +1,4 @@
 pub mod Kinds
 pub mod Sectors
 pub mod Flat
+pub mod Shapes

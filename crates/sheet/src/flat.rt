@@ -2,6 +2,7 @@
 ghost use Rattle.std.specs.Prelude.{◌≡◌, ◌≤◌, IfSome, length};
 ghost use Rattle.sheet.specs.Flat.{HoldsSectors, flat_fit, flat_programmed, flat_sectors, flat_span};
 ghost use Rattle.sheet.specs.Sectors.{programmed};
+ghost use Rattle.sheet.specs.Shapes.{flat_shaped};
 
 use crate::kind::Kind;
 use crate::sheet::Sheet;
@@ -56,6 +57,9 @@ impl<'a, K: Kind> Sheet<K> for Flat<'a> {
 
     ghost sectors = { λ s. flat_sectors K.Kind.geometry s.memory.now };
 
+    ghost shaped = { λ s. flat_shaped K.Kind.geometry s.memory.now };
+
+    #[tactic(auto, using(crate::specs::Shapes::flat_shaped))]
     fn is_fit(&self) -> bool {
         self.fits::<K>()
     }
@@ -65,8 +69,7 @@ impl<'a, K: Kind> Sheet<K> for Flat<'a> {
         let Some(span) = self.span::<K>(sector) else {
             return 0xFF;
         };
-        let bytes = &self.memory[span];
-        bytes.get(byte).copied().unwrap_or(0xFF)
+        self.memory[span].get(byte).copied().unwrap_or(0xFF)
     }
 
     // The clauses `stays` and `leaves` are the trait's, which a clause of one's own has to stand beside; `memory` says more:

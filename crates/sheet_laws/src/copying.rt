@@ -1,7 +1,6 @@
 // Copying a sector between any two sheets of one kind of part.
-ghost use Rattle.std.specs.Prelude.{◌≡◌, length, nat_lt};
-ghost use Rattle.sheet.specs.Sectors.{Shaped};
-ghost use Rattle.sheet_laws.specs.Copying.{can_copy, copied, read_out};
+ghost use Rattle.std.specs.Prelude.{◌≡◌, ◌<◌, [], length, nat_lt, slice_index_or};
+ghost use Rattle.sheet_laws.specs.Copying.{can_copy, copied};
 
 use sheet::{Kind, LARGEST_SECTOR, Sheet};
 
@@ -19,8 +18,9 @@ pub fn copy_sector<K: Kind, S: Sheet<K>, T: Sheet<K>>(
     if !has_sector::<K, S>(source, from) || !has_sector::<K, T>(target, to) {
         return false;
     }
+    // No heap on a handheld, and no array is as long as a type's constant says: a buffer for the largest sector, cut to size.
     let mut buffer = [0xFF; LARGEST_SECTOR];
-    let bytes = &mut buffer[..K::sector_size()];
+    let bytes = &mut buffer[..K::Z];
     read_sector::<K, S>(source, from, bytes);
     target.program(to, bytes);
     true
@@ -28,17 +28,18 @@ pub fn copy_sector<K: Kind, S: Sheet<K>, T: Sheet<K>>(
 
 // Whether a sheet has such a sector.
 fn has_sector<K: Kind, S: Sheet<K>>(sheet: &S, sector: usize) -> bool
-    ensures answers { result ≡ nat_lt sector (length (S.Sheet.sectors sheet.now)) }
-    ensures shape { Shaped K.Kind.geometry (S.Sheet.fit sheet.now) (S.Sheet.sectors sheet.now) }
+    ensures { result ≡ nat_lt sector (length (S.Sheet.sectors sheet.now)) }
 {
-    sheet.is_fit() && sector < K::sectors()
+    sheet.is_fit() && sector < K::N
 }
 
-// Fills a buffer with the bytes of a sector, from the first on.
+// Reads a sector that is there into a buffer of its length.
 fn read_sector<K: Kind, S: Sheet<K>>(sheet: &S, sector: usize, bytes: &mut [u8])
-    ensures { bytes.new ≡ read_out (S.Sheet.sectors sheet.now) sector (length bytes.old) }
+    requires there { sector < length (S.Sheet.sectors sheet.now) }
+    requires whole { length bytes.old ≡ K.Kind.geometry.size }
+    ensures { bytes.new ≡ slice_index_or (S.Sheet.sectors sheet.now) sector [] }
 {
-    for byte in 0..bytes.len() {
-        bytes[byte] = sheet.read(sector, byte);
+    for (byte, target) in bytes.iter_mut().enumerate() {
+        *target = sheet.read(sector, byte);
     }
 }

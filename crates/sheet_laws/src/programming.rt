@@ -1,6 +1,6 @@
 // Programming a sector of any sheet.
 ghost use Rattle.std.specs.Prelude.{◌≡◌};
-ghost use Rattle.sheet.specs.Sectors.{Shaped, can_program, programmed};
+ghost use Rattle.sheet.specs.Sectors.{can_program, programmed};
 ghost use Rattle.sheet_laws.specs.Programming.{ProgramReads};
 
 use sheet::{Kind, Sheet};
@@ -12,15 +12,7 @@ pub fn program_sector<K: Kind, S: Sheet<K>>(sheet: &mut S, sector: usize, bytes:
     ensures leaves { S.Sheet.sectors sheet.new ≡ programmed K.Kind.geometry (S.Sheet.sectors sheet.old) sector bytes.now }
     ensures reads { ProgramReads result (S.Sheet.sectors sheet.old) (S.Sheet.sectors sheet.new) sector bytes.now }
 {
-    let done = can_program::<K, S>(sheet, sector, bytes);
+    let done = sheet.is_fit() && sector < K::N && bytes.len() == K::Z;
     sheet.program(sector, bytes);
     done
-}
-
-// Whether a program is done.
-fn can_program<K: Kind, S: Sheet<K>>(sheet: &S, sector: usize, bytes: &[u8]) -> bool
-    ensures answers { result ≡ can_program K.Kind.geometry (S.Sheet.fit sheet.now) sector bytes.now }
-    ensures shape { Shaped K.Kind.geometry (S.Sheet.fit sheet.now) (S.Sheet.sectors sheet.now) }
-{
-    sheet.is_fit() && sector < K::sectors() && bytes.len() == K::sector_size()
 }

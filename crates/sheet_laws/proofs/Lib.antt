@@ -1,2 +1,0 @@
-mod ReadingBack
-mod ReadingOut
