@@ -1,6 +1,6 @@
 // The four numbers of a kind of part.
 
-#[derive(Clone, Copy, Drop)]
+#[derive(Clone, Copy, Debug, PartialEq, Eq)]
 pub struct Geometry {
     // How many sectors the array has.
     pub sectors: usize,

@@ -4,7 +4,7 @@ ghost use Rattle.sheet.specs.Sectors.{Shaped, byte_at, programmed};
 
 use crate::kind::Kind;
 
-// A sheet of a kind's sectors. Its two ghost members are what it means, and all that its callers can know of it.
+// A sheet of a kind's sectors. `fit` and `sectors` are what it means, and all that its callers can know of it.
 pub trait Sheet<K: Kind> {
     // Whether the sheet is fit. This never changes.
     ghost fit: { Self → Bool };
