@@ -30,7 +30,7 @@ fn is_refused<K: Kind>(memory: &mut [u8], sector: usize, bytes: &[u8]) -> bool {
 mod tests {
     use super::*;
     use crate::absent::Absent;
-    use crate::examples::{EXAMPLE_011A, EXAMPLE_080B, Example};
+    use crate::examples::Example;
     use crate::memories::{bytes_at, filled};
     use sheet::{Nx25f011a, Nx25f080b};
     use sheet_laws::copy_sector;
@@ -38,11 +38,8 @@ mod tests {
     use std::process::Abort;
     use std::test::Fail;
 
-    fn corners_are_read<K: Kind>(
-        rt: &impl Abort,
-        heap: Global,
-        example: Example,
-    ) -> Result<(), Fail> {
+    fn corners_are_read<K: Example>(rt: &impl Abort, heap: Global) -> Result<(), Fail> {
+        let example = K::NUMBERS;
         let mut memory = filled(heap, example.length)?;
         let sheet = Flat::new(memory.as_mut_slice());
         assert!(rt; Sheet::<K>::is_fit(&sheet));
@@ -62,11 +59,8 @@ mod tests {
     }
 
     // Programs the last sector like the first of a filled memory, then the first with other bytes, and opens the memory again.
-    fn programs_change_one_sector<K: Kind>(
-        rt: &impl Abort,
-        heap: Global,
-        example: Example,
-    ) -> Result<(), Fail> {
+    fn programs_change_one_sector<K: Example>(rt: &impl Abort, heap: Global) -> Result<(), Fail> {
+        let example = K::NUMBERS;
         let mut memory = filled(heap, example.length)?;
         let mut sheet = Flat::new(memory.as_mut_slice());
         let [first, last, _, _] = example.corners;
@@ -83,9 +77,9 @@ mod tests {
             [0xA5, 0xA5, first, last]
         );
         let memory = sheet.into_memory();
-        let [_, second, before_last, _] = example.at_borders;
+        let [_, (_, second), (_, before_last), _] = example.borders;
         assert_eq!(rt;
-            bytes_at(memory, example.borders),
+            bytes_at(memory, example.borders.map(|(place, _)| place)),
             [0xA5, second, before_last, first]
         );
         let again = Flat::new(memory);
@@ -96,11 +90,11 @@ mod tests {
         Ok(())
     }
 
-    fn past_the_end_and_wrong_lengths_are_refused<K: Kind>(
+    fn past_the_end_and_wrong_lengths_are_refused<K: Example>(
         rt: &impl Abort,
         heap: Global,
-        example: Example,
     ) -> Result<(), Fail> {
+        let example = K::NUMBERS;
         let mut memory = filled(heap, example.length)?;
         let memory = memory.as_mut_slice();
         let bytes = vec![in heap; 0xA5; example.size]?;
@@ -130,11 +124,8 @@ mod tests {
         Ok(())
     }
 
-    fn other_lengths_are_unfit<K: Kind>(
-        rt: &impl Abort,
-        heap: Global,
-        example: Example,
-    ) -> Result<(), Fail> {
+    fn other_lengths_are_unfit<K: Example>(rt: &impl Abort, heap: Global) -> Result<(), Fail> {
+        let example = K::NUMBERS;
         is_unfit::<K>(rt, heap, example.length.saturating_sub(1), example.size)?;
         is_unfit::<K>(rt, heap, example.length.saturating_add(1), example.size)?;
         is_unfit::<K>(rt, heap, 0, example.size)
@@ -156,34 +147,34 @@ mod tests {
 
     #[test]
     fn corners_are_read_on_both_kinds(rt: HostRuntime) -> Result<(), Fail> {
-        corners_are_read::<Nx25f011a>(&rt, rt.alloc(), EXAMPLE_011A)?;
-        corners_are_read::<Nx25f080b>(&rt, rt.alloc(), EXAMPLE_080B)
+        corners_are_read::<Nx25f011a>(&rt, rt.alloc())?;
+        corners_are_read::<Nx25f080b>(&rt, rt.alloc())
     }
 
     #[test]
     fn programs_change_one_sector_on_both_kinds(rt: HostRuntime) -> Result<(), Fail> {
-        programs_change_one_sector::<Nx25f011a>(&rt, rt.alloc(), EXAMPLE_011A)?;
-        programs_change_one_sector::<Nx25f080b>(&rt, rt.alloc(), EXAMPLE_080B)
+        programs_change_one_sector::<Nx25f011a>(&rt, rt.alloc())?;
+        programs_change_one_sector::<Nx25f080b>(&rt, rt.alloc())
     }
 
     #[test]
     fn past_the_end_and_wrong_lengths_are_refused_on_both_kinds(
         rt: HostRuntime,
     ) -> Result<(), Fail> {
-        past_the_end_and_wrong_lengths_are_refused::<Nx25f011a>(&rt, rt.alloc(), EXAMPLE_011A)?;
-        past_the_end_and_wrong_lengths_are_refused::<Nx25f080b>(&rt, rt.alloc(), EXAMPLE_080B)
+        past_the_end_and_wrong_lengths_are_refused::<Nx25f011a>(&rt, rt.alloc())?;
+        past_the_end_and_wrong_lengths_are_refused::<Nx25f080b>(&rt, rt.alloc())
     }
 
     #[test]
     fn other_lengths_are_unfit_on_both_kinds(rt: HostRuntime) -> Result<(), Fail> {
-        other_lengths_are_unfit::<Nx25f011a>(&rt, rt.alloc(), EXAMPLE_011A)?;
-        other_lengths_are_unfit::<Nx25f080b>(&rt, rt.alloc(), EXAMPLE_080B)
+        other_lengths_are_unfit::<Nx25f011a>(&rt, rt.alloc())?;
+        other_lengths_are_unfit::<Nx25f080b>(&rt, rt.alloc())
     }
 
     #[test]
     fn a_memory_of_one_kind_is_unfit_for_the_other(rt: HostRuntime) -> Result<(), Fail> {
-        is_unfit::<Nx25f080b>(&rt, rt.alloc(), EXAMPLE_011A.length, 536)?;
-        is_unfit::<Nx25f011a>(&rt, rt.alloc(), EXAMPLE_080B.length, 264)
+        is_unfit::<Nx25f080b>(&rt, rt.alloc(), Nx25f011a::NUMBERS.length, 536)?;
+        is_unfit::<Nx25f011a>(&rt, rt.alloc(), Nx25f080b::NUMBERS.length, 264)
     }
 
     #[test]
