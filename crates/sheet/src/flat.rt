@@ -74,7 +74,7 @@ impl<'a, K: Kind> Sheet<K> for Flat<'a> {
 
     // The clauses `stays` and `leaves` are the trait's, which a clause of one's own has to stand beside; `memory` says more:
     // where nothing is programmed even a memory that is not fit is as it was.
-    #[tactic(auto, using(crate::proofs::FlatPrograms::flat_programs))]
+    #[tactic(auto, using(std::proofs::lemmas::Grind::common_steps, crate::proofs::FlatPrograms::flat_programs))]
     fn program(&mut self, sector: usize, bytes: &[u8])
         ensures stays { flat_fit K.Kind.geometry self.new.memory.now ≡ flat_fit K.Kind.geometry self.old.memory.now }
         ensures leaves { flat_sectors K.Kind.geometry self.new.memory.now ≡ programmed K.Kind.geometry (flat_sectors K.Kind.geometry self.old.memory.now) sector bytes.now }
