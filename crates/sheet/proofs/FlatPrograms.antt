@@ -29,9 +29,7 @@ pub flat_programs :
     → after ≡ flat_programmed g memory s bytes
     → flat_sectors g after ≡ programmed g (flat_sectors g memory) s bytes
 flat_programs g memory after s bytes leaves =
-    let within = sector_within g memory s in
     let written = sectors_written g memory s bytes in
-    let long = length-paste memory (s * g.size) bytes g.size in
     listed-programmed
     g
     (flat_fit g memory)
@@ -40,6 +38,6 @@ flat_programs g memory after s bytes leaves =
     (flat_sector g.size after)
     s
     bytes
-    (grind (arith, nat_tests))
+    (grind (arith, nat_tests, length-paste, sector_within))
     (λ can. grind (arith, nat_tests))
     (λ cannot. grind (arith, nat_tests))

@@ -1,4 +1,4 @@
--- The sectors of a flat memory: how many there are, how long they are, and that they are all of it.
+-- The sectors of a flat memory are all of it.
 use Rattle.std.proofs.Common.{◌≡◌, ℕ, zero, suc, ◌+◌, ◌*◌, List, map, take, drop, arith, take-add}
 use Rattle.std.specs.List.{range_with_len, flat_map}
 use Rattle.std.proofs.lemmas.List.{drop-drop, take_all}
@@ -13,9 +13,7 @@ pub joined_sectors :
 joined_sectors size memory first zero = grind (arith, common_steps)
 joined_sectors size memory first (suc n) =
     let rest = joined_sectors size memory (first + 1) n in
-    let both = take-add size (n * size) (drop (first * size) memory) in
-    let next = drop-drop size (first * size) memory in
-    grind (arith, common_steps)
+    grind (arith, common_steps, take-add, drop-drop)
 
 -- a fit memory is its sectors one after another
 pub holds_sectors : (memory : List ℕ) → HoldsSectors memory

@@ -32,4 +32,4 @@ flat_shaped g memory =
     g
     (flat_fit g memory)
     (flat_sector g.size memory)
-    (λ fits s below. let within = sector_within g memory s fits below in grind (arith, common_steps))
+    (λ fits s below. grind (arith, common_steps, sector_within))
