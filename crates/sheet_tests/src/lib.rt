@@ -34,13 +34,12 @@ mod tests {
     use crate::memories::{bytes_at, filled};
     use sheet::{Nx25f011a, Nx25f080b};
     use sheet_laws::copy_sector;
-    use std::alloc::Global;
     use std::process::Abort;
     use std::test::Fail;
 
-    fn corners_are_read<K: Example>(rt: &impl Abort, heap: Global) -> Result<(), Fail> {
+    fn corners_are_read<K: Example>(rt: &(impl Abort + AllocGlobal)) -> Result<(), Fail> {
         let example = K::NUMBERS;
-        let mut memory = filled(heap, example.length)?;
+        let mut memory = filled(rt.alloc(), example.length)?;
         let sheet = Flat::new(memory.as_mut_slice());
         assert!(rt; Sheet::<K>::is_fit(&sheet));
         assert_eq!(rt;
@@ -59,18 +58,18 @@ mod tests {
     }
 
     // Programs the last sector like the first of a filled memory, then the first with other bytes, and opens the memory again.
-    fn programs_change_one_sector<K: Example>(rt: &impl Abort, heap: Global) -> Result<(), Fail> {
+    fn programs_change_one_sector<K: Example>(rt: &(impl Abort + AllocGlobal)) -> Result<(), Fail> {
         let example = K::NUMBERS;
-        let mut memory = filled(heap, example.length)?;
+        let mut memory = filled(rt.alloc(), example.length)?;
         let mut sheet = Flat::new(memory.as_mut_slice());
         let [first, last, _, _] = example.corners;
-        let bytes = filled(heap, example.size)?;
+        let bytes = filled(rt.alloc(), example.size)?;
         assert!(rt; program_sector::<K, Flat>(&mut sheet, example.last_sector, bytes.as_slice()));
         assert_eq!(rt;
             corners::<K, Flat>(&sheet, example.last_sector, example.last_byte),
             [first, last, first, last]
         );
-        let others = vec![in heap; 0xA5; example.size]?;
+        let others = vec![in rt.alloc(); 0xA5; example.size]?;
         assert!(rt; program_sector::<K, Flat>(&mut sheet, 0, others.as_slice()));
         assert_eq!(rt;
             corners::<K, Flat>(&sheet, example.last_sector, example.last_byte),
@@ -91,18 +90,17 @@ mod tests {
     }
 
     fn past_the_end_and_wrong_lengths_are_refused<K: Example>(
-        rt: &impl Abort,
-        heap: Global,
+        rt: &(impl Abort + AllocGlobal),
     ) -> Result<(), Fail> {
         let example = K::NUMBERS;
-        let mut memory = filled(heap, example.length)?;
+        let mut memory = filled(rt.alloc(), example.length)?;
         let memory = memory.as_mut_slice();
-        let bytes = vec![in heap; 0xA5; example.size]?;
+        let bytes = vec![in rt.alloc(); 0xA5; example.size]?;
         assert!(rt; is_refused::<K>(memory, example.sectors, bytes.as_slice()));
         assert!(rt; is_refused::<K>(memory, usize::MAX, bytes.as_slice()));
-        let short = vec![in heap; 0xA5; example.last_byte]?;
+        let short = vec![in rt.alloc(); 0xA5; example.last_byte]?;
         assert!(rt; is_refused::<K>(memory, 0, short.as_slice()));
-        let long = vec![in heap; 0xA5; example.size.saturating_add(1)]?;
+        let long = vec![in rt.alloc(); 0xA5; example.size.saturating_add(1)]?;
         assert!(rt; is_refused::<K>(memory, example.last_sector, long.as_slice()));
         assert!(rt; is_refused::<K>(memory, 0, &[]));
         Ok(())
@@ -110,13 +108,12 @@ mod tests {
 
     // A memory of another length reads as FFH and programs nothing.
     fn is_unfit<K: Kind>(
-        rt: &impl Abort,
-        heap: Global,
+        rt: &(impl Abort + AllocGlobal),
         length: usize,
         size: usize,
     ) -> Result<(), Fail> {
-        let mut memory = filled(heap, length)?;
-        let bytes = vec![in heap; 0xA5; size]?;
+        let mut memory = filled(rt.alloc(), length)?;
+        let bytes = vec![in rt.alloc(); 0xA5; size]?;
         assert!(rt; is_refused::<K>(memory.as_mut_slice(), 0, bytes.as_slice()));
         let sheet = Flat::new(memory.as_mut_slice());
         assert!(rt; !Sheet::<K>::is_fit(&sheet));
@@ -124,11 +121,11 @@ mod tests {
         Ok(())
     }
 
-    fn other_lengths_are_unfit<K: Example>(rt: &impl Abort, heap: Global) -> Result<(), Fail> {
+    fn other_lengths_are_unfit<K: Example>(rt: &(impl Abort + AllocGlobal)) -> Result<(), Fail> {
         let example = K::NUMBERS;
-        is_unfit::<K>(rt, heap, example.length.saturating_sub(1), example.size)?;
-        is_unfit::<K>(rt, heap, example.length.saturating_add(1), example.size)?;
-        is_unfit::<K>(rt, heap, 0, example.size)
+        is_unfit::<K>(rt, example.length.saturating_sub(1), example.size)?;
+        is_unfit::<K>(rt, example.length.saturating_add(1), example.size)?;
+        is_unfit::<K>(rt, 0, example.size)
     }
 
     #[test]
@@ -147,34 +144,34 @@ mod tests {
 
     #[test]
     fn corners_are_read_on_both_kinds(rt: HostRuntime) -> Result<(), Fail> {
-        corners_are_read::<Nx25f011a>(&rt, rt.alloc())?;
-        corners_are_read::<Nx25f080b>(&rt, rt.alloc())
+        corners_are_read::<Nx25f011a>(&rt)?;
+        corners_are_read::<Nx25f080b>(&rt)
     }
 
     #[test]
     fn programs_change_one_sector_on_both_kinds(rt: HostRuntime) -> Result<(), Fail> {
-        programs_change_one_sector::<Nx25f011a>(&rt, rt.alloc())?;
-        programs_change_one_sector::<Nx25f080b>(&rt, rt.alloc())
+        programs_change_one_sector::<Nx25f011a>(&rt)?;
+        programs_change_one_sector::<Nx25f080b>(&rt)
     }
 
     #[test]
     fn past_the_end_and_wrong_lengths_are_refused_on_both_kinds(
         rt: HostRuntime,
     ) -> Result<(), Fail> {
-        past_the_end_and_wrong_lengths_are_refused::<Nx25f011a>(&rt, rt.alloc())?;
-        past_the_end_and_wrong_lengths_are_refused::<Nx25f080b>(&rt, rt.alloc())
+        past_the_end_and_wrong_lengths_are_refused::<Nx25f011a>(&rt)?;
+        past_the_end_and_wrong_lengths_are_refused::<Nx25f080b>(&rt)
     }
 
     #[test]
     fn other_lengths_are_unfit_on_both_kinds(rt: HostRuntime) -> Result<(), Fail> {
-        other_lengths_are_unfit::<Nx25f011a>(&rt, rt.alloc())?;
-        other_lengths_are_unfit::<Nx25f080b>(&rt, rt.alloc())
+        other_lengths_are_unfit::<Nx25f011a>(&rt)?;
+        other_lengths_are_unfit::<Nx25f080b>(&rt)
     }
 
     #[test]
     fn a_memory_of_one_kind_is_unfit_for_the_other(rt: HostRuntime) -> Result<(), Fail> {
-        is_unfit::<Nx25f080b>(&rt, rt.alloc(), Nx25f011a::NUMBERS.length, 536)?;
-        is_unfit::<Nx25f011a>(&rt, rt.alloc(), Nx25f080b::NUMBERS.length, 264)
+        is_unfit::<Nx25f080b>(&rt, Nx25f011a::NUMBERS.length, 536)?;
+        is_unfit::<Nx25f011a>(&rt, Nx25f080b::NUMBERS.length, 264)
     }
 
     #[test]
