@@ -1,7 +1,6 @@
 -- What is written in columns is read again, and columns that hold a number are its only text.
-use Rattle.std.proofs.Common.{◌≡◌, ℕ, zero, suc, ◌+◌, ◌*◌, ◌/◌, ◌%◌, ◌^◌, ◌<◌, ◌≤◌, min, true, false, eqb, ◌⊎◌, ◌-◌, List, [], ◌∷◌, ◌++◌, length, replicate, refl, ◌∙◌, inl, inr, append_assoc, mul_assoc, mul_comm, arith}
+use Rattle.std.proofs.Common.{◌≡◌, ℕ, zero, suc, ◌+◌, ◌*◌, ◌/◌, ◌%◌, ◌^◌, ◌<◌, ◌≤◌, true, false, eqb, ◌⊎◌, List, [], ◌∷◌, ◌++◌, length, replicate, refl, ◌∙◌, inl, inr, append_assoc, mul_assoc, mul_comm, arith}
 use native.Mathlib.Nat.{pow-succ'}
-use Rattle.std.proofs.Math.Nat.{pow-le-pow_right}
 use Rattle.std.proofs.lemmas.List.{append-nil}
 use Rattle.std.proofs.lemmas.List.Folds.{list_all-append}
 use Rattle.std.proofs.lemmas.Bool.{cases_eq, and_parts, eqb-true, false≢true}
@@ -150,12 +149,6 @@ value_below =
     (λ bs. value bs < 10 ^ length bs)
     (λ bs below. omega (arith, below, pow-succ' 10 (length bs)))
     (λ b bs least most after. omega (arith, digits_below 10 (10 * 0 + digit b) bs (omega arith) after, pow-succ' 10 (length bs)))
-
--- nine columns of a number are below the largest u32
-pub value_fits : (bs : List ℕ) → numeral bs ≡ true → length bs ≤ 9 → min (value bs) (2 ^ 32 - 1) ≡ value bs
-value_fits bs holds few =
-    let nine : 10 ^ length bs ≤ 10 ^ 9 = pow-le-pow_right (omega arith) few in
-    omega (arith, value_below bs holds)
 
 pub blank_is_spaces : (bs : List ℕ) → blank bs ≡ true → bs ≡ replicate (length bs) 32
 blank_is_spaces [] holds = refl

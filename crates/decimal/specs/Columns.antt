@@ -32,10 +32,6 @@ abbrev pub numeral : List ℕ → Bool
 numeral [] = false
 numeral (b ∷ bs) = cond (is_space b) (numeral bs) (is_digit b && (not (b == 48) && digits bs))
 
--- whether a column may stand right of others: a space before the number has begun, the digit 0 only after
-abbrev pub may_follow : Bool → ℕ → Bool
-may_follow begun b = cond (is_space b) (not begun) (cond (b == 48) begun (is_digit b))
-
 -- what a column adds to a number: its digit, and nothing for a space
 abbrev pub digit : ℕ → ℕ
 digit b = b - 48

@@ -1,12 +1,13 @@
 -- The pages that edits leave are bags again, of the edited stacks.
-use Rattle.std.proofs.Common.{◌≡◌, ℕ, ◌+◌, ◌≤◌, true, false, List, [], ◌++◌, length, take, drop, sym, ap, ◌∙◌, ap₂, arith}
-use Rattle.std.proofs.lemmas.List.{drop_at, take-append-drop}
+use Rattle.std.proofs.Common.{◌≡◌, ℕ, ◌+◌, ◌≤◌, true, false, List, [], ◌++◌, length, drop, Ok, sym, ap, ◌∙◌, ap₂, arith}
+use Rattle.std.proofs.lemmas.List.{drop_at}
 use Rattle.std.proofs.lemmas.Bool.{cond-true}
 use Rattle.std.proofs.lemmas.Bool.Decides.{nat_tests}
 use Rattle.page.specs.declared.contents.Stack.{Stack}
 use Rattle.page.specs.Pages.{is_bag, stacks, render, rewritten}
 use Rattle.page.specs.Stacks.{InRange, Lawful, held, added, crafted, removed}
-use Rattle.page.specs.Calls.{added_page, blank_page, crafted_page, no_room, removed_page}
+use Rattle.refusal.specs.Answers.{answer}
+use Rattle.page.specs.Calls.{add_tests, added_page, blank_page, craft_tests, crafted_page, no_room, no_such_amount, no_such_kind, remove_tests, removed_page}
 use Rattle.page.specs.Holdings.{BagAgain, Emptied, Exchanged, Lowered, Raised, count_of, held_in}
 use Rattle.page.proofs.Amounts.{held-added, held-removed}
 use Rattle.page.proofs.Counting.{length-added, length_removed}
@@ -27,6 +28,12 @@ lawful_added items ss range room lawful =
     let within : length (added items ss) ≤ 32 = grind (arith, nat_tests) in
     (within, rising_added items range 0 ss range.0.0 below lawful.1)
 
+in_range : (items : Stack) → (no_such_kind items.kind).0 ≡ false → (no_such_amount items.amount).0 ≡ false → InRange items
+in_range items kind amount = (
+  (grind (arith, nat_tests), grind (arith, nat_tests)),
+  (grind (arith, nat_tests), grind (arith, nat_tests)),
+)
+
 -- a page rewritten with lawful stacks
 
 pub rewritten_bag : (page : List ℕ) (ss : List Stack) → Lawful ss → is_bag (rewritten page ss) ≡ true
@@ -41,10 +48,6 @@ rewritten_rest page ss = drop_at (render ss) (drop 257 page) 257 (length-render 
 pub rewritten_again : (page : List ℕ) (ss new : List Stack) → rewritten (rewritten page ss) new ≡ rewritten page new
 rewritten_again page ss new = ap (λ (rest : List ℕ). render new ++ rest) (rewritten_rest page ss)
 
--- the first bytes of a page, put back
-pub put_back : (page : List ℕ) (ss : List Stack) → take 257 page ++ drop 257 (rewritten page ss) ≡ page
-put_back page ss = ap (λ (rest : List ℕ). take 257 page ++ rest) (rewritten_rest page ss) ∙ take-append-drop 257 page
-
 -- a bag's page after a removal
 
 module _ (page : List ℕ) (bag : is_bag page ≡ true) (items : Stack) (enough : items.amount ≤ held items.kind (stacks page)) where
@@ -55,8 +58,8 @@ module _ (page : List ℕ) (bag : is_bag page ≡ true) (items : Stack) (enough 
     pub removed-stacks : stacks left ≡ removed items (stacks page)
     removed-stacks = ap stacks is ∙ rewritten-stacks page (removed items (stacks page)) lawful_after
 
-    pub removed_put_back : take 257 page ++ drop 257 left ≡ page
-    removed_put_back = ap (λ (bytes : List ℕ). take 257 page ++ drop 257 bytes) is ∙ put_back page (removed items (stacks page))
+    pub removed_bag : is_bag left ≡ true
+    removed_bag = ap is_bag is ∙ rewritten_bag page (removed items (stacks page)) lawful_after
 
     -- and after an adding to that
     pub crafted_page_is : (into : Stack) (done : List ℕ) → done ≡ added_page left into → done ≡ crafted_page page items into
@@ -83,10 +86,14 @@ blank_empties page =
     let lawful : Lawful [] = (omega arith, tt) in
     record { again = bag_again page [] lawful; holds = held_in-rewritten page [] lawful }
 
-module _ (page : List ℕ) (bag : is_bag page ≡ true) where
-  pub add_raises :
-      (items : Stack) → InRange items → (no_room items (stacks page)).0 ≡ false → Raised page (added_page page items) items
-  add_raises items range room =
+-- what a good call makes of what a page holds: that its tests pass says all that is needed
+
+module _ (page : List ℕ) where
+  pub add_raises : (items : Stack) → Ok (tt {0}) ≡ answer (add_tests page items) tt → Raised page (added_page page items) items
+  add_raises items good =
+      let bag : is_bag page ≡ true = grind (arith, nat_tests) in
+      let range = in_range items (grind (arith, nat_tests)) (grind (arith, nat_tests)) in
+      let room : (no_room items (stacks page)).0 ≡ false = grind (arith, nat_tests) in
       let lawful = lawful_stacks page bag in
       let after = lawful_added items (stacks page) range room lawful in
       record {
@@ -97,9 +104,10 @@ module _ (page : List ℕ) (bag : is_bag page ≡ true) where
             ∙ ap (λ (n : ℕ). n + count_of kind items) (sym (held_in_bag kind page bag));
       }
 
-  pub remove_lowers :
-      (items : Stack) → items.amount ≤ held items.kind (stacks page) → Lowered page (removed_page page items) items
-  remove_lowers items enough =
+  pub remove_lowers : (items : Stack) → Ok (tt {0}) ≡ answer (remove_tests page items) tt → Lowered page (removed_page page items) items
+  remove_lowers items good =
+      let bag : is_bag page ≡ true = grind (arith, nat_tests) in
+      let enough : items.amount ≤ held items.kind (stacks page) = grind (arith, nat_tests) in
       let lawful = lawful_stacks page bag in
       let after = lawful_removed items (stacks page) enough lawful in
       record {
@@ -111,12 +119,12 @@ module _ (page : List ℕ) (bag : is_bag page ≡ true) where
       }
 
   pub craft_exchanges :
-      (out into : Stack)
-      → InRange into
-      → out.amount ≤ held out.kind (stacks page)
-      → (no_room into (removed out (stacks page))).0 ≡ false
-      → Exchanged page (crafted_page page out into) out into
-  craft_exchanges out into range enough room =
+      (out into : Stack) → Ok (tt {0}) ≡ answer (craft_tests page out into) tt → Exchanged page (crafted_page page out into) out into
+  craft_exchanges out into good =
+      let bag : is_bag page ≡ true = grind (arith, nat_tests) in
+      let range = in_range into (grind (arith, nat_tests)) (grind (arith, nat_tests)) in
+      let enough : out.amount ≤ held out.kind (stacks page) = grind (arith, nat_tests) in
+      let room : (no_room into (removed out (stacks page))).0 ≡ false = grind (arith, nat_tests) in
       let lawful = lawful_stacks page bag in
       let between = lawful_removed out (stacks page) enough lawful in
       let after = lawful_added into (removed out (stacks page)) range room between in

@@ -1,5 +1,5 @@
 -- A bag has 32 stacks exactly where its last place is filled.
-use Rattle.std.proofs.Common.{◌≡◌, ℕ, suc, true, false, ltb, leb, List, [], ◌∷◌, ◌++◌, map, length, sym, refl, ap, ◌∙◌, arith}
+use Rattle.std.proofs.Common.{◌≡◌, ℕ, suc, Bool, true, false, ltb, leb, List, [], ◌∷◌, ◌++◌, map, length, sym, refl, ap, ◌∙◌, arith}
 use Rattle.std.specs.List.{range_with_len}
 use Rattle.std.proofs.lemmas.List.FromFn.{length-map-range_with_len, map-range_with_len_more}
 use Rattle.std.proofs.lemmas.Bool.{and_parts, false≢true}
@@ -7,8 +7,13 @@ use Rattle.std.proofs.lemmas.Bool.Decides.{nat_tests}
 use Rattle.page.specs.declared.contents.Place.{Place}
 use Rattle.page.specs.declared.contents.Place.TheVariants.{Empty, Filled, Malformed}
 use Rattle.page.specs.Pages.{all_empty, in_order, is_bag, place_at, places, stacks, stacks_in}
-use Rattle.page.specs.Steps.{is_filled}
 use Rattle.page.proofs.Texts.{bag_parts}
+
+-- whether a place holds a stack
+abbrev pub is_filled : Place → Bool
+is_filled Empty = false
+is_filled (Filled s) = true
+is_filled Malformed = false
 
 empty_last : (ps : List Place) (p : Place) → all_empty (ps ++ (p ∷ [])) ≡ true → is_filled p ≡ false
 empty_last [] Empty holds = refl

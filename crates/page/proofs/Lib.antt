@@ -3,6 +3,7 @@ pub mod Places
 pub mod Searching
 pub mod PlaceTexts
 pub mod Texts
+pub mod FirstBytes
 pub mod Fronts
 pub mod Rising
 pub mod Finding
@@ -13,4 +14,5 @@ pub mod TextEdits
 pub mod BagEdits
 pub mod Fullness
 pub mod BagLaws
+pub mod Crafts
 pub mod Spots

@@ -1,13 +1,14 @@
--- The places of a page from one place on, as a reader that goes through the page meets them.
-use Rattle.std.proofs.Common.{◌≡◌, ℕ, suc, ◌+◌, ◌-◌, ◌*◌, ◌<◌, ◌≤◌, true, ◌&&◌, eqb, List, [], ◌∷◌, map, length, get_or, take, drop, refl, ap, arith}
+-- The places of a page as a reader that goes through the page meets them: by their numbers, or chunk by chunk.
+use Rattle.std.proofs.Common.{◌≡◌, ℕ, zero, suc, ◌+◌, ◌-◌, ◌*◌, ◌<◌, ◌≤◌, Bool, true, false, ◌&&◌, eqb, List, [], ◌∷◌, ◌++◌, map, length, get_or, take, drop, Some, None, Option, sym, refl, ap, ap₂, ◌∙◌, arith}
 use Rattle.std.specs.List.{range_with_len}
 use Rattle.page.specs.declared.contents.Place.{Place}
 use Rattle.std.proofs.lemmas.Bool.{le-leb}
-use Rattle.page.specs.declared.expectation.Expectation.{Expectation}
-use Rattle.page.specs.declared.expectation.Expectation.TheVariants.{KindAbove, NothingMore}
-use Rattle.page.specs.Steps.{meets}
+use Rattle.std.proofs.lemmas.List.{drop_at, length-append, length-drop, take_all, take_at}
+use Rattle.page.specs.Steps.{kind_at, may_follow}
 use Rattle.page.specs.Places.{place_in}
-use Rattle.page.specs.Pages.{is_bag, in_order, place_at, places}
+use Rattle.page.specs.declared.contents.Place.TheVariants.{Empty, Filled, Malformed}
+use Rattle.page.specs.Pages.{all_empty, is_bag, in_order, place_at, places}
+use Rattle.page.proofs.Texts.{places_in, places_of}
 
 unfoldable pub places_from : List ℕ → ℕ → List Place
 places_from page i = map (place_at page) (range_with_len i (32 - i))
@@ -31,13 +32,83 @@ pub is_bag_long :
 unfolding is_bag
 is_bag_long page long = rw (le-leb 257 (length page) long)
 
-pub meets_none : (expectation : Expectation) → meets expectation [] ≡ true
-meets_none (KindAbove kind) = refl
-meets_none NothingMore = refl
-
 -- the part of the page that the code hands to the place reader
 pub place_at_part :
     (page : List ℕ) (i : ℕ) → place_in (take (1 + 8 * i + 8 - (1 + 8 * i)) (drop (1 + 8 * i) page)) ≡ place_at page i
 place_at_part page i =
     let width : 1 + 8 * i + 8 - (1 + 8 * i) ≡ 8 = omega arith in
     ap (λ (n : ℕ). place_in (take n (drop (1 + 8 * i) page))) width
+
+-- whether the places to come are what a bag's reader expects: kinds above one, or nothing more
+abbrev pub meets : Option ℕ → List Place → Bool
+meets (Some above) ps = in_order above ps
+meets None ps = all_empty ps
+
+meets_more :
+    (above : Option ℕ) (p : Place) (ps : List Place) → meets above (p ∷ ps) ≡ (may_follow above p && meets (kind_at p) ps)
+meets_more (Some kind) Empty ps = refl
+meets_more None Empty ps = refl
+meets_more (Some kind) (Filled s) ps = refl
+meets_more None (Filled s) ps = refl
+meets_more (Some kind) Malformed ps = refl
+meets_more None Malformed ps = refl
+
+-- what is still to come of a page whose places are read chunk by chunk
+pub record Unread (page rest : List ℕ) (above : Option ℕ) : Type 0 where
+  pub count : ℕ
+  pub width : length rest ≡ 8 * count
+  -- the places still to come decide
+  pub decides : meets above (places_in count rest) ≡ in_order 0 (places page)
+
+pub unread_none : (page : List ℕ) → length page ≡ 257 → Unread page (take 256 (drop 1 page)) (Some 0)
+unread_none page long =
+    let width : length (drop 1 page) ≡ 256 = length-drop 1 page ∙ omega (arith, long) in
+    let all = take_all 256 (drop 1 page) (omega (arith, width)) in
+    record { count = 32; width = ap length all ∙ width; decides = ap (λ (bytes : List ℕ). in_order 0 (places_in 32 bytes)) all ∙ ap (in_order 0) (sym (places_of page)) }
+
+places_in_more :
+    (n : ℕ) (chunk later : List ℕ) → length chunk ≡ 8 → places_in (suc n) (chunk ++ later) ≡ place_in chunk ∷ places_in n later
+unfolding places_in
+places_in_more n chunk later eight =
+    ap₂ (λ (front back : List ℕ). place_in front ∷ places_in n back) (take_at chunk later 8 eight) (drop_at chunk later 8 eight)
+
+module _ (page rest chunk later : List ℕ) (above : Option ℕ) (split : rest ≡ chunk ++ later) (eight : length chunk ≡ 8) where
+  first_unread :
+      (n : ℕ)
+      → length rest ≡ 8 * n
+      → (m : ℕ) × (length later ≡ 8 * m) × (places_in n rest ≡ place_in chunk ∷ places_in m later)
+  first_unread zero width = absurd (omega (arith, ap length split, length-append chunk later))
+  first_unread (suc m) width =
+      (m, omega (arith, ap length split, length-append chunk later), ap (places_in (suc m)) split ∙ places_in_more m chunk later eight)
+
+  -- what the first place that is still to come decides
+  first_decides :
+      (unread : Unread page rest above)
+      → (m : ℕ)
+      × (length later ≡ 8 * m)
+      × ((may_follow above (place_in chunk) && meets (kind_at (place_in chunk)) (places_in m later)) ≡ in_order 0 (places page))
+  first_decides unread =
+      let first = first_unread unread.count unread.width in (
+        first.0,
+        first.1,
+        sym (meets_more above (place_in chunk) (places_in first.0 later)) ∙ ap (meets above) (sym first.2) ∙ unread.decides,
+      )
+
+  pub unread_more :
+      may_follow above (place_in chunk) ≡ true → Unread page rest above → Unread page later (kind_at (place_in chunk))
+  unread_more may unread =
+      let first = first_decides unread in record { count = first.0; width = first.1; decides = rw may at first.2 }
+
+  pub unread_spoilt : may_follow above (place_in chunk) ≡ false → Unread page rest above → false ≡ in_order 0 (places page)
+  unread_spoilt may_not unread = rw may_not at (first_decides unread).2
+
+nothing_unread : (next : Option ℕ) (rest : List ℕ) → meets next (places_in zero rest) ≡ true
+unfolding places_in
+nothing_unread (Some kind) rest = refl
+nothing_unread None rest = refl
+
+pub unread_all :
+    (page rest : List ℕ) (above : Option ℕ) → length rest < 8 → Unread page rest above → true ≡ in_order 0 (places page)
+unread_all page rest above short unread =
+    let none : unread.count ≡ 0 = omega (arith, unread.width) in
+    sym (nothing_unread above rest) ∙ ap (λ (n : ℕ). meets above (places_in n rest)) (sym none) ∙ unread.decides

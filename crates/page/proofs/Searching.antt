@@ -7,7 +7,6 @@ use Rattle.page.specs.declared.contents.Place.TheVariants.{Empty, Filled, Malfor
 use Rattle.page.specs.Pages.{is_bag, in_order, places, place_at, stacks, stacks_in}
 use Rattle.page.specs.Stacks.{held, spot}
 use Rattle.page.specs.Steps.{stops_with}
-use Rattle.page.proofs.Amounts.{held_most}
 use Rattle.page.proofs.Finding.{spot_found, spot_most}
 use Rattle.page.proofs.Texts.{bag_parts, lawful_stacks}
 use Rattle.page.proofs.Places.{places_from, places_from_none, places_from_more, places_from_all}
@@ -77,7 +76,6 @@ Stopped page kind at count =
     record {
       place : at ≡ spot kind (stacks page);
       amount : count ≡ held kind (stacks page);
-      most : count ≤ 99999;
       found : 0 < count → at < 32;
       room : length (stacks page) < 32 → at < 32;
     }
@@ -95,7 +93,6 @@ module _ (page : List ℕ) (bag : is_bag page ≡ true) (kind place : ℕ) (so_f
       record {
         place = there;
         amount = all;
-        most = omega (arith, held_most kind 0 (stacks page) lawful.1);
         found = λ some. omega (arith, spot_found kind 0 (stacks page) lawful.1 (omega arith), lawful.0);
         room = λ few. omega (arith, spot_most kind (stacks page));
       }

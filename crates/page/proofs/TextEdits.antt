@@ -1,10 +1,9 @@
 -- What overwriting and moving places does to the text of stacks.
-use Rattle.std.proofs.Common.{◌≡◌, ℕ, zero, suc, ◌+◌, ◌*◌, ◌≤◌, List, [], ◌∷◌, ◌++◌, length, take, drop, set, replicate, sym, refl, ap, ◌∙◌, ap₂, append_assoc, suc-add, zero-add, arith, take-add}
-use borrow.Rule.Slice.PartMut.{put_mid}
+use Rattle.std.proofs.Common.{◌≡◌, ℕ, zero, suc, ◌+◌, ◌*◌, ◌≤◌, List, [], ◌∷◌, ◌++◌, length, take, drop, replicate, sym, refl, ap, ◌∙◌, ap₂, append_assoc, suc-add, zero-add, arith, take-add}
 use Rattle.std.proofs.lemmas.List.{drop_at, length-append, length-drop, length-take-le, replicate-append-replicate, take-append-drop, take-append-le, take_at}
 use Rattle.page.specs.declared.contents.Stack.{Stack}
 use Rattle.page.specs.Places.{text, empty_text}
-use Rattle.page.specs.Pages.{text_of, render, rewritten}
+use Rattle.page.specs.Pages.{text_of, render}
 use Rattle.page.specs.Layout.{overwritten}
 use Rattle.page.proofs.Texts.{length-text_of}
 
@@ -180,7 +179,7 @@ module _ (front : List Stack) (m : ℕ) (count : length front + suc m ≡ 32) wh
         ∙ ap (λ (bytes : List ℕ). head ++ bytes) (sym (append_assoc (text_of m back) empty_text rest) ∙ ap (λ (bytes : List ℕ). bytes ++ rest) (sym (text_of_more m back few)))
         ∙ sym (render_from back rest)
 
--- a page with its tag written and every place filled with spaces
+-- the text of no stacks
 
 text_of_empty : (n : ℕ) → text_of n [] ≡ replicate (8 * n) 32
 unfolding text_of
@@ -191,27 +190,6 @@ text_of_empty (suc n) =
     ∙ replicate-append-replicate 8 (8 * n) 32
     ∙ ap (λ (k : ℕ). replicate k 32) width
 
-spaces_over_tag :
-    (page spaces : List ℕ)
-    → 257 ≤ length page
-    → spaces ≡ replicate (length (take 256 (drop 1 (set page 0 201)))) 32
-    → put_mid 1 256 (set page 0 201) spaces ≡ rewritten page []
+pub render_empty : render [] ≡ 201 ∷ replicate 256 32
 unfolding render
-spaces_over_tag [] spaces long is = absurd (omega arith)
-spaces_over_tag (x ∷ xs) spaces long is = blanked (length-take-le 256 xs (omega arith))
-  where
-    blanked : length (take 256 xs) ≡ 256 → put_mid 1 256 (set (x ∷ xs) 0 201) spaces ≡ rewritten (x ∷ xs) []
-    blanked width =
-        ap
-        (λ (bytes : List ℕ). 201 ∷ (bytes ++ drop 256 xs))
-        (is ∙ ap (λ (k : ℕ). replicate k 32) width ∙ sym (text_of_empty 32))
-
-pub blanked_text :
-    (page tagged spaces : List ℕ)
-    → 257 ≤ length page
-    → tagged ≡ set page 0 201
-    → spaces ≡ replicate (length (take 256 (drop 1 tagged))) 32
-    → put_mid 1 256 tagged spaces ≡ rewritten page []
-blanked_text page tagged spaces long is filled =
-    ap (λ (bytes : List ℕ). put_mid 1 256 bytes spaces) is
-    ∙ spaces_over_tag page spaces long (filled ∙ ap (λ (bytes : List ℕ). replicate (length (take 256 (drop 1 bytes))) 32) is)
+render_empty = ap (λ (bytes : List ℕ). 201 ∷ bytes) (text_of_empty 32)

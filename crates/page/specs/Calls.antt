@@ -1,5 +1,6 @@
 -- What each call of the page answers, and what it leaves: the tests stand in the order of their numbers.
 use Rattle.std.specs.Prelude.{ℕ, ◌+◌, Bool, not, ◌&&◌, ◌||◌, List, [], ◌∷◌, ◌++◌, length, Result, ◌==◌, nat_le, nat_lt}
+use Rattle.refusal.specs.declared.cases.Refusal.{Refusal}
 use Rattle.refusal.specs.declared.cases.Refusal.TheVariants.{
   ShortPage,
   NoSuchKind,
@@ -19,13 +20,17 @@ use Rattle.page.specs.Pages.{is_bag, stacks, rewritten}
 abbrev pub short_page : List ℕ → Test
 short_page page = (nat_lt (length page) 257, number ShortPage)
 
+-- a number is outside 1 to the largest
+abbrev pub outside : ℕ → ℕ → Refusal → Test
+outside largest n refusal = (not (nat_le 1 n && nat_le n largest), number refusal)
+
 -- a kind is outside 1 to 999
 abbrev pub no_such_kind : ℕ → Test
-no_such_kind kind = (not (nat_le 1 kind && nat_le kind 999), number NoSuchKind)
+no_such_kind kind = outside 999 kind NoSuchKind
 
 -- an amount is outside 1 to 99,999
 abbrev pub no_such_amount : ℕ → Test
-no_such_amount amount = (not (nat_le 1 amount && nat_le amount 99999), number NoSuchAmount)
+no_such_amount amount = outside 99999 amount NoSuchAmount
 
 -- a craft names one kind twice
 abbrev pub same_kind : Stack → Stack → Test

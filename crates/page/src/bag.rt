@@ -1,78 +1,87 @@
-// Whether a page is a bag.
-ghost use Rattle.std.specs.Prelude.{◌≡◌, ◌<◌, ◌≤◌, List, [], ◌∷◌, length};
-ghost use Rattle.page.specs.Calls.{not_bag, read_answer};
-ghost use Rattle.page.specs.Steps.{meets, meets_if};
+// Whether a page is a bag, and what is known of one that is.
+ghost use Rattle.std.specs.Prelude.{◌≡◌, ◌<◌, true, false, MatchOption};
+ghost use Rattle.page.specs.declared.format.TheConstants.{PLACES};
+ghost use Rattle.page.specs.Calls.{read_answer};
 ghost use Rattle.page.specs.Pages.{in_order, is_bag, place_at, places};
-ghost use Rattle.refusal.specs.Answers.{answer, by_number};
+ghost use Rattle.page.specs.Steps.{kind_at, may_follow};
+ghost use Rattle.refusal.specs.Answers.{by_number};
 
-use crate::checks::check_length;
 use crate::codec::read_place;
 use crate::contents::Place;
-use crate::expectation::Expectation;
-use crate::format::{COLUMNS, PLACES, TAG};
+use crate::format::{COLUMNS, PAGE_LENGTH, TAG};
 use refusal::Refusal;
+
+// A page that is known to be a bag.
+#[derive(Clone, Copy)]
+pub(crate) struct Bag<'a> {
+    page: &'a [u8; PAGE_LENGTH],
+    ghost is_bag: { is_bag page.now ≡ true },
+}
 
 // Says whether a page is a bag.
 pub fn read(page: &[u8]) -> Result<bool, Refusal>
     ensures { by_number result ≡ read_answer page.now }
 {
-    check_length(page)?;
-    Ok(is_bag(page))
+    let page = page.first_chunk().ok_or(Refusal::ShortPage)?;
+    Ok(Bag::on(page).is_some())
 }
 
-pub(crate) fn check_bag(page: &[u8]) -> Result<(), Refusal>
-    requires { 257 ≤ length page.now }
-    ensures { by_number result ≡ answer (not_bag page.now ∷ []) tt }
-{
-    if is_bag(page) {
-        Ok(())
-    } else {
-        Err(Refusal::NotABag)
+impl<'a> Bag<'a> {
+    // The bag on a page, if it is one.
+    #[tactic(auto, using(crate::proofs::Places::is_bag_long))]
+    pub(crate) fn on(page: &'a [u8; PAGE_LENGTH]) -> Option<Bag<'a>>
+        ensures { MatchOption result (is_bag page.now ≡ false) (λ bag. bag.page.now ≡ page.now) }
+    {
+        if page[0] == TAG && is_in_order(page) {
+            Some(Bag { page })
+        } else {
+            None
+        }
+    }
+
+    // What a place of the bag holds.
+    pub(crate) fn place_at(self, place: usize) -> Place
+        requires { place < PLACES }
+        ensures { result ≡ place_at self.entry.page.now place }
+    {
+        let Bag { page } = self;
+        let start = 1 + COLUMNS * place;
+        read_place(&page[start..start + COLUMNS])
     }
 }
 
-fn is_bag(page: &[u8]) -> bool
-    requires { 257 ≤ length page.now }
-    ensures { result ≡ is_bag page.now }
-{
-    page[0] == TAG && is_in_order(page)
-}
-
 // Whether the filled places come first, with rising kinds.
-fn is_in_order(page: &[u8]) -> bool
-    requires { 257 ≤ length page.now }
+fn is_in_order(page: &[u8; PAGE_LENGTH]) -> bool
     ensures { result ≡ in_order 0 (places page.now) }
 {
-    let mut expectation = Expectation::KindAbove(0);
-    for i in 0..PLACES {
-        let Some(next) = expectation.after(place_at(page, i)) else {
+    let mut above = Some(0);
+    for columns in page[1..].chunks_exact(COLUMNS) {
+        let place = read_place(columns);
+        if !may_follow(above, place) {
             return false;
-        };
-        expectation = next;
+        }
+        above = kind_at(place);
     }
     true
 }
 
-impl Expectation {
-    // What the place after this one may hold, if this one may stand here.
-    fn after(self, place: Place) -> Option<Expectation>
-        ensures { (ps : List Place) → meets self (place ∷ ps) ≡ meets_if result ps }
-    {
-        match (self, place) {
-            (_, Place::Empty) => Some(Expectation::NothingMore),
-            (Expectation::KindAbove(kind), Place::Filled(stack)) if stack.kind > kind => {
-                Some(Expectation::KindAbove(stack.kind))
-            }
-            _ => None,
-        }
+// Whether a place may stand where kinds above one may, or where nothing more may.
+fn may_follow(above: Option<u32>, place: Place) -> bool
+    ensures { result ≡ may_follow above place }
+{
+    match (above, place) {
+        (_, Place::Empty) => true,
+        (Some(kind), Place::Filled(stack)) => stack.kind > kind,
+        _ => false,
     }
 }
 
-// What a place of a page holds.
-pub(crate) fn place_at(page: &[u8], place: usize) -> Place
-    requires { (257 ≤ length page.now) × (place < 32) }
-    ensures { result ≡ place_at page.now place }
+// The kind of the stack at a place, if there is one.
+fn kind_at(place: Place) -> Option<u32>
+    ensures { result ≡ kind_at place }
 {
-    let start = 1 + COLUMNS * place;
-    read_place(&page[start..start + COLUMNS])
+    match place {
+        Place::Filled(stack) => Some(stack.kind),
+        _ => None,
+    }
 }

@@ -1,10 +1,10 @@
 // Making a page the blank page.
-ghost use Rattle.std.specs.Prelude.{◌≡◌, ◌≤◌, length, slice_set};
+ghost use Rattle.std.specs.Prelude.{◌≡◌, ◌-◌, ◌∷◌, replicate, OnOk};
+ghost use Rattle.page.specs.declared.format.TheConstants.{PAGE_LENGTH, TAG};
 ghost use Rattle.page.specs.Calls.{blank_page, blank_tests};
 ghost use Rattle.page.specs.Holdings.{Emptied};
-ghost use Rattle.refusal.specs.Answers.{answer, by_number, on_ok, WhenGood};
+ghost use Rattle.refusal.specs.Answers.{answer, by_number, on_ok};
 
-use crate::checks::check_length;
 use crate::format::{PAGE_LENGTH, TAG};
 use refusal::Refusal;
 
@@ -12,17 +12,17 @@ use refusal::Refusal;
 pub fn blank(page: &mut [u8]) -> Result<(), Refusal>
     ensures answers { by_number result ≡ answer (blank_tests page.old) tt }
     ensures leaves { page.new ≡ on_ok result (blank_page page.old) page.old }
-    ensures holds { WhenGood result (Emptied page.old page.new) }
+    ensures holds { OnOk result (Emptied page.old page.new) }
 {
-    check_length(page)?;
-    write_tag(page);
-    page[1..PAGE_LENGTH].fill(b' ');
+    let bytes = page.first_chunk_mut().ok_or(Refusal::ShortPage)?;
+    clear(bytes);
     Ok(())
 }
 
-fn write_tag(page: &mut [u8])
-    requires { 257 ≤ length page.old }
-    ensures { page.new ≡ slice_set page.old 0 201 }
+// Writes the text of a bag with no stacks: the tag, then spaces only.
+fn clear(page: &mut [u8; PAGE_LENGTH])
+    ensures { page.new ≡ TAG ∷ replicate (PAGE_LENGTH - 1) 32 }
 {
+    *page = [b' '; PAGE_LENGTH];
     page[0] = TAG;
 }

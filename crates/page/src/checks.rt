@@ -1,46 +1,39 @@
 // The tests that calls share, each with its refusal. A call makes them in the order of their numbers.
 ghost use Rattle.std.specs.Prelude.{◌≡◌, [], ◌∷◌};
-ghost use Rattle.page.specs.Calls.{edit_tests, no_such_amount, no_such_kind, short_page};
+ghost use Rattle.page.specs.Calls.{no_such_amount, no_such_kind, outside};
 ghost use Rattle.refusal.specs.Answers.{answer, by_number};
 
-use crate::bag::check_bag;
 use crate::contents::Stack;
-use crate::format::{LAST_KIND, MOST_ITEMS, PAGE_LENGTH};
+use crate::format::{LAST_KIND, MOST_ITEMS};
 use refusal::Refusal;
-
-pub(crate) fn check_length(page: &[u8]) -> Result<(), Refusal>
-    ensures { by_number result ≡ answer (short_page page.now ∷ []) tt }
-{
-    if page.len() < PAGE_LENGTH {
-        return Err(Refusal::ShortPage);
-    }
-    Ok(())
-}
 
 pub(crate) fn check_kind(kind: u32) -> Result<(), Refusal>
     ensures { by_number result ≡ answer (no_such_kind kind ∷ []) tt }
 {
-    match kind {
-        1..=LAST_KIND => Ok(()),
-        _ => Err(Refusal::NoSuchKind),
-    }
+    check_range(kind, LAST_KIND, Refusal::NoSuchKind)
 }
 
 pub(crate) fn check_amount(amount: u32) -> Result<(), Refusal>
     ensures { by_number result ≡ answer (no_such_amount amount ∷ []) tt }
 {
-    match amount {
-        1..=MOST_ITEMS => Ok(()),
-        _ => Err(Refusal::NoSuchAmount),
+    check_range(amount, MOST_ITEMS, Refusal::NoSuchAmount)
+}
+
+// Refuses a number that is not one of 1 to the largest.
+fn check_range(number: u32, largest: u32, refusal: Refusal) -> Result<(), Refusal>
+    ensures { by_number result ≡ answer (outside largest number refusal ∷ []) tt }
+{
+    if (1..=largest).contains(&number) {
+        Ok(())
+    } else {
+        Err(refusal)
     }
 }
 
-// A bag's page, and items of a kind and an amount that are both in range.
-pub(crate) fn check_edit(page: &[u8], items: Stack) -> Result<(), Refusal>
-    ensures { by_number result ≡ answer (edit_tests page.now items) tt }
+// Items of a kind and an amount that are both in range.
+pub(crate) fn check_items(items: Stack) -> Result<(), Refusal>
+    ensures { by_number result ≡ answer (no_such_kind items.kind ∷ no_such_amount items.amount ∷ []) tt }
 {
-    check_length(page)?;
     check_kind(items.kind)?;
-    check_amount(items.amount)?;
-    check_bag(page)
+    check_amount(items.amount)
 }

@@ -1,5 +1,7 @@
-// The places of a page rewritten and moved, each eight columns wide.
-ghost use Rattle.std.specs.Prelude.{◌≡◌, ◌+◌, ◌*◌, ◌<◌, ◌≤◌, length};
+// The places of a page rewritten and moved, each eight columns wide. That a place is one of the 32 stands in their contracts
+// and in no type: a search also answers 32, past a full bag's last place, so a type would be made by the same fact at each call.
+ghost use Rattle.std.specs.Prelude.{◌≡◌, ◌+◌, ◌-◌, ◌*◌, ◌<◌, ◌≤◌};
+ghost use Rattle.page.specs.declared.format.TheConstants.{COLUMNS, PAGE_LENGTH, PLACES};
 ghost use Rattle.page.specs.Layout.{copied, overwritten, with_closed, with_inserted};
 ghost use Rattle.page.specs.Places.{empty_text, text};
 
@@ -7,20 +9,18 @@ use crate::contents::Stack;
 use crate::format::{COLUMNS, PAGE_LENGTH, PLACES};
 
 // Writes a stack into a place.
-pub(crate) fn write_stack(page: &mut [u8], place: usize, stack: Stack)
-    requires long { 257 ≤ length page.old }
-    requires within { place < 32 }
-    ensures { page.new ≡ overwritten page.old (1 + 8 * place) (text stack) }
+pub(crate) fn write_stack(page: &mut [u8; PAGE_LENGTH], place: usize, stack: Stack)
+    requires { place < PLACES }
+    ensures { page.new ≡ overwritten page.old (1 + COLUMNS * place) (text stack) }
 {
     let start = 1 + COLUMNS * place;
     page[start..start + COLUMNS].copy_from_slice(&stack.columns());
 }
 
 // Copies so many places over others.
-fn copy_places(page: &mut [u8], from: usize, to: usize, count: usize)
-    requires long { 257 ≤ length page.old }
-    requires source { from + count ≤ 32 }
-    requires target { to + count ≤ 32 }
+fn copy_places(page: &mut [u8; PAGE_LENGTH], from: usize, to: usize, count: usize)
+    requires source { from + count ≤ PLACES }
+    requires target { to + count ≤ PLACES }
     ensures { page.new ≡ copied page.old from to count }
 {
     let start = 1 + COLUMNS * from;
@@ -28,17 +28,15 @@ fn copy_places(page: &mut [u8], from: usize, to: usize, count: usize)
 }
 
 // Empties the last place.
-fn empty_last(page: &mut [u8])
-    requires { 257 ≤ length page.old }
-    ensures { page.new ≡ overwritten page.old 249 empty_text }
+fn empty_last(page: &mut [u8; PAGE_LENGTH])
+    ensures { page.new ≡ overwritten page.old (PAGE_LENGTH - COLUMNS) empty_text }
 {
-    page[PAGE_LENGTH - COLUMNS..PAGE_LENGTH].copy_from_slice(b"        ");
+    page[PAGE_LENGTH - COLUMNS..].fill(b' ');
 }
 
 // Puts a stack into a place, and moves those from there on by one place to the right. The last place is lost.
-pub(crate) fn insert_stack(page: &mut [u8], place: usize, stack: Stack)
-    requires long { 257 ≤ length page.old }
-    requires within { place < 32 }
+pub(crate) fn insert_stack(page: &mut [u8; PAGE_LENGTH], place: usize, stack: Stack)
+    requires { place < PLACES }
     ensures { page.new ≡ with_inserted page.old place stack }
 {
     copy_places(page, place, place + 1, PLACES - 1 - place);
@@ -46,9 +44,8 @@ pub(crate) fn insert_stack(page: &mut [u8], place: usize, stack: Stack)
 }
 
 // Takes the stack out of a place, and moves those after it by one place to the left.
-pub(crate) fn remove_stack(page: &mut [u8], place: usize)
-    requires long { 257 ≤ length page.old }
-    requires within { place < 32 }
+pub(crate) fn remove_stack(page: &mut [u8; PAGE_LENGTH], place: usize)
+    requires { place < PLACES }
     ensures { page.new ≡ with_closed page.old place }
 {
     copy_places(page, place + 1, place, PLACES - 1 - place);

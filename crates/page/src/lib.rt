@@ -8,7 +8,6 @@ mod checks;
 mod codec;
 mod contents;
 mod crafting;
-mod expectation;
 mod format;
 mod layout;
 mod removing;

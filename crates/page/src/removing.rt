@@ -1,47 +1,37 @@
 // Removing items from a bag.
-ghost use Rattle.std.specs.Prelude.{◌≡◌, ◌≤◌, true, [], ◌∷◌, length};
-ghost use Rattle.page.specs.Calls.{held_too_few, not_enough, remove_tests, removed_page};
+ghost use Rattle.std.specs.Prelude.{◌≡◌, [], ◌∷◌, OnOk};
+ghost use Rattle.page.specs.Calls.{held_too_few, remove_tests, removed_page};
 ghost use Rattle.page.specs.Holdings.{Lowered};
-ghost use Rattle.page.specs.Pages.{is_bag, stacks};
-ghost use Rattle.page.specs.Stacks.{InRange};
 ghost use Rattle.page.specs.Steps.{left_of};
-ghost use Rattle.refusal.specs.Answers.{answer, by_number, on_ok, WhenGood};
+ghost use Rattle.refusal.specs.Answers.{answer, by_number, on_ok};
 
-use crate::checks::check_edit;
+use crate::bag::Bag;
+use crate::checks::check_items;
 use crate::contents::Stack;
+use crate::format::PAGE_LENGTH;
 use crate::layout::{remove_stack, write_stack};
-use crate::search::find_in_bag;
 use refusal::Refusal;
 
 // Lowers a stack by some items, and closes the gap where nothing is left.
 pub fn remove(page: &mut [u8], items: Stack) -> Result<(), Refusal>
     ensures answers { by_number result ≡ answer (remove_tests page.old items) tt }
     ensures leaves { page.new ≡ on_ok result (removed_page page.old items) page.old }
-    ensures holds { WhenGood result (Lowered page.old page.new items) }
+    ensures holds { OnOk result (Lowered page.old page.new items) }
 {
-    check_edit(page, items)?;
-    take(page, items)
+    let bytes = page.first_chunk_mut().ok_or(Refusal::ShortPage)?;
+    take(bytes, items)
 }
 
-// Removes items from a page that is a bag.
-pub(crate) fn take(page: &mut [u8], items: Stack) -> Result<(), Refusal>
-    requires long { 257 ≤ length page.old }
-    requires bag { is_bag page.old ≡ true }
-    requires range { InRange items }
-    ensures answers { by_number result ≡ answer (not_enough items (stacks page.old) ∷ []) tt }
+// Removes items from a page that has no other bytes.
+pub(crate) fn take(page: &mut [u8; PAGE_LENGTH], items: Stack) -> Result<(), Refusal>
+    ensures answers { by_number result ≡ answer (remove_tests page.old items) tt }
     ensures leaves { page.new ≡ on_ok result (removed_page page.old items) page.old }
-    ensures holds { WhenGood result (Lowered page.old page.new items) }
 {
-    let (place, held) = find_in_bag(page, items.kind);
+    check_items(items)?;
+    let bag = Bag::on(page).ok_or(Refusal::NotABag)?;
+    let (place, held) = bag.find(items.kind);
     match lowered(held, items.amount)? {
-        Some(amount) => write_stack(
-            page,
-            place,
-            Stack {
-                kind: items.kind,
-                amount,
-            },
-        ),
+        Some(amount) => write_stack(page, place, Stack { amount, ..items }),
         None => remove_stack(page, place),
     }
     Ok(())

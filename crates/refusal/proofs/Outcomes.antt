@@ -1,17 +1,8 @@
--- What a refused call leaves, and how a call whose tests are made in parts answers.
+-- How a call answers whose tests are made in parts, and what a call claims.
 use Rattle.std.proofs.Common.{◌≡◌, ℕ, true, false, List, [], ◌∷◌, ◌++◌, Ok, Err, Result, refl}
+use Rattle.std.specs.Result.{OnOk}
 use Rattle.refusal.specs.declared.cases.Refusal.{Refusal}
-use Rattle.refusal.specs.Numbers.{number}
-use Rattle.refusal.specs.Answers.{Test, answer, by_number, on_ok, WhenGood}
-
--- what a refused call leaves is what was there
-pub stays :
-    {T E U : Type 0} (r : Result T E) (e : E) (left good before : U) → r ≡ Err e → left ≡ before → left ≡ on_ok r good before
-stays r e left good before refused same = rw refused same
-
--- of a refused call nothing is claimed
-pub unclaimed : {T E : Type 0} (r : Result T E) (e : E) (fact : Type 0) → r ≡ Err e → WhenGood r fact
-unclaimed r e fact refused = rw refused tt
+use Rattle.refusal.specs.Answers.{Test, answer, by_number, on_ok}
 
 -- a refusal by the first tests is one by all of them
 pub refused_early :
@@ -37,35 +28,5 @@ Claims result answered left good before fact =
     record {
       answers : by_number result ≡ answered;
       leaves : left ≡ on_ok result good before;
-      holds : WhenGood result fact;
+      holds : OnOk result fact;
     }
-
--- the exit of a call whose part refused: the call returns `out`, the part refused with `refusal`
-pub refused_exit :
-    {T U : Type 0} (result : Result T Refusal) (out refusal : Refusal) (first later : List Test) (value : T)
-    → (left good before : U) (fact : Type 0)
-    → result ≡ Err out
-    → out ≡ refusal
-    → Err (number refusal) ≡ answer first (tt {0})
-    → left ≡ before
-    → Claims result (answer (first ++ later) value) left good before fact
-refused_exit {T} result out refusal first later value left good before fact is same refused unchanged =
-    rw
-    is
-    (
-    record {
-      answers = rw same (refused_early first later value (number refusal) refused);
-      leaves = unchanged;
-      holds = tt;
-    }
-    )
-
--- the exit of a call whose first tests passed, and whose last part makes the claims
-pub passed_exit :
-    {T U : Type 0} (result : Result T Refusal) (first later : List Test) (value : T)
-    → (left good before : U) (fact : Type 0)
-    → Ok (tt {0}) ≡ answer first (tt {0})
-    → Claims result (answer later value) left good before fact
-    → Claims result (answer (first ++ later) value) left good before fact
-passed_exit result first later value left good before fact passed claims =
-    rw (passed_early first later value passed) claims

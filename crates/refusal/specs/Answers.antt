@@ -21,8 +21,3 @@ by_number (Err refusal) = Err (number refusal)
 abbrev pub on_ok : {T E U : Type 0} → Result T E → U → U → U
 on_ok (Ok value) good refused = good
 on_ok (Err refusal) good refused = refused
-
--- what holds where a call was good
-abbrev pub WhenGood : {T E : Type 0} → Result T E → Type 0 → Type 0
-WhenGood (Ok value) fact = fact
-WhenGood (Err refusal) fact = Unit {0}

@@ -1,21 +1,28 @@
-use Rattle.std.proofs.Common.{[], ◌∷◌}
-use Rattle.refusal.proofs.Outcomes.{passed_exit}
-use Rattle.page.specs.Calls.{edit_tests, no_room}
-use Rattle.page.specs.Pages.{stacks}
+use Rattle.std.proofs.Common.{ℕ, List, arith}
+use Rattle.std.specs.Array.{IsFirstChunk}
+use Rattle.page.specs.Calls.{add_tests}
+use Rattle.page.specs.Stacks.{added}
+use Rattle.page.specs.Holdings.{Raised}
+use Rattle.page.proofs.BagLaws.{add_raises}
+use Rattle.page.proofs.FirstBytes.{add_tests-first, claims-first}
 use Rattle.page.proofs.adding.add.Goals as goal
 
 pub returns : goal.returns
 returns c =
     let page = c.args.page.now in
     let items = c.args.items in
-    passed_exit
-    c.put.result
-    (edit_tests page items)
-    (no_room items (stacks page) ∷ [])
-    tt
-    c.put.new.page
-    _
+    let bytes = c.in_ok-bytes.bytes.now in
+    let first : IsFirstChunk page bytes 257 = grind arith in
+    claims-first
     page
-    _
-    c.in_ok-check_edit.ensures
-    c.put.ensures
+    bytes
+    first
+    (λ (p : List ℕ). add_tests p items)
+    (added items)
+    (λ (left : List ℕ). Raised page left items)
+    (add_tests-first page bytes first items)
+    (add_raises page items)
+    c.put.result
+    c.put.new.page
+    c.put.ensures.answers
+    c.put.ensures.leaves

@@ -1,24 +1,24 @@
-use Rattle.std.proofs.Common.{◌+◌, ap}
-use Rattle.page.specs.Pages.{in_order}
-use Rattle.page.proofs.Places.{places_from, places_from_none, places_from_more, places_from_all, meets_none}
+use Rattle.std.proofs.Common.{ℕ, List, Some, sym, subst, ◌∙◌, rules, arith}
+use Rattle.page.proofs.Places.{Unread, unread_none, unread_more, unread_spoilt, unread_all}
 use Rattle.page.proofs.bag.is_in_order.Goals as goal
 
-pub loop-i-init : goal.loop-i-init
-loop-i-init c = ap (in_order 0) (places_from_none c.args.page.now)
+pub loop-columns-init : goal.loop-columns-init
+loop-columns-init c =
+    let chunks = c.chunks_exact-columns-items.ensures in
+    rw
+    c.into_iter-columns-iterator.ensures.into_iter_gives
+    (chunks.size, subst (λ (rest : List ℕ). Unread c.args.page.now rest (Some 0)) (sym chunks.rest) (unread_none c.args.page.now c.told-page))
 
-pub returns-in_default : goal.returns-in_default
-returns-in_default c =
-    let step = places_from_more c.args.page.now c.loop-i.i c.loop-i-test.true in
-    let spoilt = c.in_default.ensures (places_from c.args.page.now (c.loop-i.i + 1)) in
-    cc
+pub returns-then-not-may_follow : goal.returns-then-not-may_follow
+returns-then-not-may_follow c =
+    let chunk = c.in-Some.ensures.steps.1 in
+    let may_not = c.if-not-may_follow.true in
+    unread_spoilt c.args.page.now _ c.in-Some.columns.now _ c.loop-columns.above chunk.0 (chunk.1 ∙ c.loop-columns.invariant.0) (search (rules, may_not)) c.loop-columns.invariant.1
 
-pub loop-i-preserved : goal.loop-i-preserved
-loop-i-preserved c =
-    let step = places_from_more c.args.page.now c.loop-i.i c.loop-i-test.true in
-    let goes_on = c.in-Some.ensures (places_from c.args.page.now (c.loop-i.i + 1)) in
-    cc
+pub loop-columns-preserved : goal.loop-columns-preserved
+loop-columns-preserved c = search (rules, unread_more)
 
 pub returns : goal.returns
 returns c =
-    let end = places_from_all c.args.page.now c.loop-i.i c.loop-i-test.false in
-    cc (meets_none c.loop-i.expectation)
+    let short = c.in-None.ensures.steps.1 in
+    unread_all c.args.page.now _ c.loop-columns.above (omega (arith, short, c.loop-columns.invariant.0)) c.loop-columns.invariant.1

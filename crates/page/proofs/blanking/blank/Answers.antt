@@ -1,15 +1,18 @@
-use Rattle.std.proofs.Common.{◌≤◌, length, sym, subst, arith}
+use Rattle.std.proofs.Common.{◌≡◌, ℕ, List, ◌++◌, drop, ap, ◌∙◌, sym, subst, arith}
+use Rattle.std.specs.Array.{IsFirstChunk}
 use Rattle.std.proofs.lemmas.Bool.Decides.{nat_tests}
 use Rattle.page.specs.Holdings.{Emptied}
+use Rattle.page.specs.Calls.{blank_page}
 use Rattle.page.proofs.BagLaws.{blank_empties}
-use Rattle.page.proofs.TextEdits.{blanked_text}
+use Rattle.page.proofs.TextEdits.{render_empty}
 use Rattle.page.proofs.blanking.blank.Goals as goal
 
 pub returns : goal.returns
 returns c =
     let page = c.args.page.now in
-    let long : 257 ≤ length page = grind (arith, nat_tests) in
-    let left = blanked_text page c.write_tag.new.page c.fill.new.self long c.write_tag.ensures (c.fill.ensures.after (λ y same. same)) in
+    let first : IsFirstChunk page c.in_ok-bytes.bytes.now 257 = grind arith in
+    let left : c.clear.new.page ++ drop 257 page ≡ blank_page page =
+    ap (λ (front : List ℕ). front ++ drop 257 page) (c.clear.ensures ∙ sym render_empty) in
     record {
       answers = grind (arith, nat_tests);
       leaves = left;

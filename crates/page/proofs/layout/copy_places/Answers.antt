@@ -9,6 +9,6 @@ returns c =
     let width = 8 * c.args.count in
     let same : start + width - start ≡ width = omega arith in
     let within : width ≤ length (drop start c.args.page.now) =
-    omega (arith, length-drop start c.args.page.now, c.requires.long, c.requires.source) in
+    omega (arith, length-drop start c.args.page.now, c.told-page, c.requires.source) in
     c.copy_within.ensures.after
     ∙ overwritten_copy c.args.page.now (1 + 8 * c.args.to) start width (start + width - start) same within

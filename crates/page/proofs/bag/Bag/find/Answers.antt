@@ -1,6 +1,6 @@
 use Rattle.std.proofs.Common.{◌<◌, arith, rules}
 use Rattle.page.proofs.Searching.{searched_none, searched_more, stopped_at, stopped_at_end}
-use Rattle.page.proofs.search.find_in_bag.Goals as goal
+use Rattle.page.proofs.bag.Bag.find.Goals as goal
 
 pub loop-place-init : goal.loop-place-init
 loop-place-init c = search (rules, searched_none)
@@ -15,4 +15,4 @@ pub returns-in-Some : goal.returns-in-Some
 returns-in-Some c =
     let stops = c.in-Some.ensures in
     let within : c.loop-place.place < 32 = omega arith in
-    stopped_at c.args.page.now c.requires.bag c.args.kind c.loop-place.place c.loop-place.invariant c.in-Some.amount within (cc c.place_at.ensures)
+    stopped_at c.args.self.page.now c.args.self.is_bag c.args.kind c.loop-place.place c.loop-place.invariant c.in-Some.amount within (cc c.place_at.ensures)
