@@ -1,6 +1,6 @@
 -- What a page holds of each kind of item, and what a good call finds or makes of that.
 use Rattle.std.specs.Prelude.{◌≡◌, ℕ, ◌+◌, ◌<◌, ◌≤◌, true, cond, List, length, take, drop, sum_by, ◌==◌}
-use Rattle.std.specs.List.{AllByRecursion}
+use Rattle.std.specs.List.{All}
 use Rattle.page.specs.declared.contents.Stack.{Stack}
 use Rattle.page.specs.Stacks.{held}
 use Rattle.page.specs.Pages.{is_bag, stacks}
@@ -16,8 +16,8 @@ count_of kind items = cond (kind == items.kind) items.amount 0
 -- what find says of a kind in a bag's stacks
 pub record StopsAt (kind : ℕ) (ss : List Stack) (place amount : ℕ) : Type 0 where
   -- every stack before the place has a smaller kind, and none from the place on has
-  pub before : AllByRecursion (λ s. s.kind < kind) (take place ss)
-  pub after : AllByRecursion (λ s. kind ≤ s.kind) (drop place ss)
+  pub before : All (λ s. s.kind < kind) (take place ss)
+  pub after : All (λ s. kind ≤ s.kind) (drop place ss)
   pub within : place ≤ length ss
   -- the amount is what the stacks of that kind have together
   pub total : amount ≡ sum_by (count_of kind) ss
