@@ -1,44 +1,29 @@
 -- How many stacks there are after an edit.
-use Rattle.std.proofs.Common.{◌≡◌, ℕ, suc, ◌+◌, ◌≤◌, cond, eqb, ◌⊎◌, List, [], ◌∷◌, length, sym, refl, ap, ◌∙◌, inl, inr, arith}
-use Rattle.std.proofs.lemmas.List.{length-append}
-use Rattle.std.proofs.lemmas.Bool.{cases_eq, cond-true, cond-false, eq-eqb, ne_eqb}
+use Rattle.std.proofs.Common.{◌≡◌, ℕ, suc, ◌+◌, ◌≤◌, cond, eqb, List, [], ◌∷◌, length, refl, arith}
+use Rattle.std.proofs.lemmas.Bool.Decides.{nat_tests}
 use Rattle.page.specs.declared.contents.Stack.{Stack}
 use Rattle.page.specs.Stacks.{RisingFrom, held, added, removed}
-use Rattle.page.proofs.Fronts.{amounting, removed_past, removed_whole, removed_part}
-use Rattle.page.proofs.Finding.{found, absent}
+use Rattle.page.proofs.Fronts.{added_cases, removed_cases}
+use Rattle.page.proofs.Rising.{held_absent}
 
 pub length_removed : (items : Stack) (ss : List Stack) → length (removed items ss) ≤ length ss
 length_removed items [] = omega arith
 length_removed items (s ∷ ss) =
-    by_kind (cases_eq s.kind items.kind) (cases_eq s.amount items.amount) (length_removed items ss)
-  where
-    by_kind :
-        (s.kind ≡ items.kind) ⊎ (s.kind ≡ items.kind → ⊥)
-        → (s.amount ≡ items.amount) ⊎ (s.amount ≡ items.amount → ⊥)
-        → length (removed items ss) ≤ length ss
-        → length (removed items (s ∷ ss)) ≤ suc (length ss)
-    by_kind (inl same) (inl all) after = rw (removed_whole items s ss same all) (omega arith)
-    by_kind (inl same) (inr some) after = rw (removed_part items s ss same some) (omega arith)
-    by_kind (inr other) amounts after = rw (removed_past items s ss other) (omega arith)
+    let after = length_removed items ss in
+    removed_cases items s ss (λ left. length left ≤ suc (length ss)) (λ other. omega arith) (λ same all. omega arith) (λ same some. omega arith)
 
 pub length-added :
     (items : Stack) (above : ℕ) (ss : List Stack)
     → RisingFrom above ss
     → length (added items ss) ≡ cond (eqb (held items.kind ss) 0) (suc (length ss)) (length ss)
-length-added items above ss rising = by_held (cases_eq (held items.kind ss) 0)
-  where
-    by_held :
-        (held items.kind ss ≡ 0) ⊎ (held items.kind ss ≡ 0 → ⊥)
-        → length (added items ss) ≡ cond (eqb (held items.kind ss) 0) (suc (length ss)) (length ss)
-    by_held (inl none) =
-        let gap = absent items.kind above ss rising none in
-        ap length (gap.inserted items refl)
-        ∙ length-append gap.front (items ∷ gap.back)
-        ∙ omega (arith, ap length gap.split, length-append gap.front gap.back)
-        ∙ sym (cond-true (eqb (held items.kind ss) 0) (suc (length ss)) (length ss) (eq-eqb _ _ none))
-    by_held (inr some) =
-        let there = found items.kind above ss rising (omega arith) in
-        ap length (there.raised items refl)
-        ∙ length-append there.front (amounting there.stack (there.stack.amount + items.amount) ∷ there.back)
-        ∙ omega (arith, ap length there.split, length-append there.front (there.stack ∷ there.back))
-        ∙ sym (cond-false (eqb (held items.kind ss) 0) (suc (length ss)) (length ss) (ne_eqb _ _ some))
+length-added items above [] rising = refl
+length-added items above (s ∷ ss) rising =
+    let after = length-added items s.kind ss rising.1.1 in
+    added_cases
+    items
+    s
+    ss
+    (λ left. length left ≡ cond (eqb (held items.kind (s ∷ ss)) 0) (suc (suc (length ss))) (suc (length ss)))
+    (λ smaller. grind (arith, nat_tests))
+    (λ same. grind (arith, nat_tests))
+    (λ larger. let none = held_absent items.kind s.kind ss (omega arith) rising.1.1 in grind (arith, nat_tests))
