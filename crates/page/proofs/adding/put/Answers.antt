@@ -12,21 +12,13 @@ pub returns-else-is_full-clause-leaves : goal.returns-else-is_full-clause-leaves
 returns-else-is_full-clause-leaves c =
     let page = c.args.page.now in
     let bag : is_bag page ≡ true = grind (arith, nat_tests) in
-    inserted_page page bag c.args.items c.find-place.result.0 (grind arith) (grind arith) (grind (arith, nat_tests)) c.insert_stack.new.page c.insert_stack.ensures
+    c.insert_stack.ensures
+    ∙ inserted_page page bag c.args.items c.find-place.result.0 (grind arith) (grind arith) (grind (arith, nat_tests))
 
 pub returns-in_ok-amount-clause-leaves : goal.returns-in_ok-amount-clause-leaves
 returns-in_ok-amount-clause-leaves c =
     let page = c.args.page.now in
     let items = c.args.items in
-    let place = c.find-place.result.0 in
     let bag : is_bag page ≡ true = grind (arith, nat_tests) in
     let amount : c.in_ok-amount.amount ≡ held items.kind (stacks page) + items.amount = grind (arith, nat_tests) in
-    raised_page
-    page
-    bag
-    items
-    place
-    (grind arith)
-    (grind arith)
-    c.write_stack.new.page
-    (c.write_stack.ensures ∙ ap (λ (n : ℕ). overwritten page (1 + 8 * place) (text (amounting items n))) amount)
+    c.write_stack.ensures ∙ rw amount (raised_page page bag items (grind arith) c.find-place.result.0 (grind arith))

@@ -12,35 +12,16 @@ pub returns-in-Some-clause-leaves : goal.returns-in-Some-clause-leaves
 returns-in-Some-clause-leaves c =
     let page = c.args.page.now in
     let items = c.args.items in
-    let place = c.find-place.result.0 in
     let total = held items.kind (stacks page) in
     let bag : is_bag page ≡ true = grind (arith, nat_tests) in
     let part : total ≡ items.amount → ⊥ = λ all. grind (arith, nat_tests) in
     let amount : c.in-Some.amount ≡ total - items.amount = grind (arith, nat_tests) in
-    lowered_page
-    page
-    bag
-    items
-    place
-    (grind arith)
-    (grind (arith, nat_tests))
-    c.write_stack.new.page
-    part
-    (c.write_stack.ensures ∙ ap (λ (n : ℕ). overwritten page (1 + 8 * place) (text (amounting items n))) amount)
+    c.write_stack.ensures
+    ∙ rw amount (lowered_page page bag items (grind (arith, nat_tests)) c.find-place.result.0 (grind arith) part)
 
 pub returns-in-None-clause-leaves : goal.returns-in-None-clause-leaves
 returns-in-None-clause-leaves c =
     let page = c.args.page.now in
-    let items = c.args.items in
     let bag : is_bag page ≡ true = grind (arith, nat_tests) in
-    let all : held items.kind (stacks page) ≡ items.amount = grind (arith, nat_tests) in
-    closed_page
-    page
-    bag
-    items
-    c.find-place.result.0
-    (grind arith)
-    (grind (arith, nat_tests))
-    c.remove_stack.new.page
-    all
     c.remove_stack.ensures
+    ∙ closed_page page bag c.args.items (grind (arith, nat_tests)) c.find-place.result.0 (grind arith) (grind (arith, nat_tests))
