@@ -7,18 +7,18 @@ use Rattle.page.specs.Pages.{text_of, render}
 use Rattle.page.specs.Layout.{copied, overwritten, with_closed, with_inserted}
 use Rattle.page.proofs.Texts.{length-text_of}
 
--- as many bytes as before, between a head and a tail
-overwritten_at :
-    (head old tail new page : List ℕ) (start : ℕ)
-    → length head ≡ start
-    → length old ≡ length new
-    → page ≡ head ++ (old ++ tail)
-    → overwritten page start new ≡ head ++ (new ++ tail)
-overwritten_at head old tail new page start at same is =
-    let past : length (head ++ old) ≡ start + length new = length-append head old ∙ omega arith in
-    rw
-    (is, take_at head (old ++ tail) start at, ← append_assoc head old tail, drop_at (head ++ old) tail (start + length new) past)
-    refl
+-- the bytes between a head and a tail: as many others written over them, and they themselves
+
+module _ (head old tail page : List ℕ) (start count : ℕ) (is : page ≡ head ++ (old ++ tail)) (at : length head ≡ start) (width : length old ≡ count) where
+  overwritten_at : (new : List ℕ) → length new ≡ count → overwritten page start new ≡ head ++ (new ++ tail)
+  overwritten_at new same =
+      let past : length (head ++ old) ≡ start + length new = length-append head old ∙ omega arith in
+      rw
+      (is, take_at head (old ++ tail) start at, ← append_assoc head old tail, drop_at (head ++ old) tail (start + length new) past)
+      refl
+
+  taken_at : take count (drop start page) ≡ old
+  taken_at = rw (is, drop_at head (old ++ tail) start at, take_at old tail count width) refl
 
 -- the text of places, cut before a place, after its first place, and before its last one
 
@@ -26,7 +26,7 @@ text_of-append :
     (xs ys : List Stack) (m : ℕ) → text_of (length xs + m) (xs ++ ys) ≡ text_of (length xs) xs ++ text_of m ys
 unfolding text_of
 text_of-append [] ys m = rw zero-add refl
-text_of-append (x ∷ xs) ys m = rw (suc-add, text_of-append xs ys m) refl
+text_of-append (x ∷ xs) ys m = rw (suc-add (length xs) m, text_of-append xs ys m) refl
 
 record FirstPlace (m : ℕ) (ys : List Stack) : Type 0 where
   bytes : List ℕ
@@ -60,13 +60,6 @@ last_place (suc m) (y ∷ ys) =
 -- a page of stacks, those before a place and those from there on
 
 module _ (front : List Stack) (within : length front < 32) (page rest : List ℕ) where
-  start : ℕ
-  start = 1 + 8 * length front
-
-  -- how many places come after that one
-  after : ℕ
-  after = 31 - length front
-
   head : List ℕ
   head = 201 ∷ text_of (length front) front
 
@@ -74,8 +67,8 @@ module _ (front : List Stack) (within : length front < 32) (page rest : List ℕ
   unfolding head
   length-head = omega (arith, length-text_of (length front) front)
 
-  render_from : (ys : List Stack) → render (front ++ ys) ++ rest ≡ head ++ (text_of (suc after) ys ++ rest)
-  unfolding head after render
+  render_from : (ys : List Stack) → render (front ++ ys) ++ rest ≡ head ++ (text_of (suc (31 - length front)) ys ++ rest)
+  unfolding head render
   render_from ys =
       let count : 32 ≡ length front + suc (31 - length front) = omega arith in
       rw (count, text_of-append front ys (suc (31 - length front)), append_assoc) refl
@@ -85,9 +78,10 @@ module _ (front : List Stack) (within : length front < 32) (page rest : List ℕ
       (old new : Stack) (back : List Stack)
       → page ≡ render (front ++ (old ∷ back)) ++ rest
       → overwritten page (1 + 8 * length front) (text new) ≡ render (front ++ (new ∷ back)) ++ rest
-  unfolding text_of after
+  unfolding text_of
   replaced_text old new back is =
-      overwritten_at head (text old) (text_of (31 - length front) back ++ rest) (text new) page (1 + 8 * length front) length-head refl (is ∙ render_from (old ∷ back))
+      let tail = text_of (31 - length front) back ++ rest in
+      overwritten_at head (text old) tail page (1 + 8 * length front) 8 (is ∙ render_from (old ∷ back)) length-head refl (text new) refl
       ∙ sym (render_from (new ∷ back))
 
   -- the places from one on moved by one place to the right, and a stack put in between
@@ -95,19 +89,23 @@ module _ (front : List Stack) (within : length front < 32) (page rest : List ℕ
       (new : Stack) (back : List Stack)
       → page ≡ render (front ++ back) ++ rest
       → with_inserted page (length front) new ≡ render (front ++ (new ∷ back)) ++ rest
-  unfolding text_of after
+  unfolding text_of
   inserted_text new back is =
-      let m = 31 - length front in
+      let place = length front in
+      let m = 31 - place in
+      let kept = text_of m back in
+      let width = length-text_of m back in
       let first = first_place m back in
       let last = last_place m back in
-      let whole : page ≡ head ++ ((text_of m back ++ last.bytes) ++ rest) = is ∙ rw (← last.split) (render_from back) in
-      let kept : take (8 * m) (drop (1 + 8 * length front) page) ≡ text_of m back =
-      rw (whole, drop_at head ((text_of m back ++ last.bytes) ++ rest) (1 + 8 * length front) length-head, append_assoc, take_at (text_of m back) (last.bytes ++ rest) (8 * m) (length-text_of m back)) refl in
-      let split : page ≡ (head ++ first.bytes) ++ (text_of m first.others ++ rest) =
-      is ∙ render_from back ∙ rw (first.split, append_assoc, append_assoc) refl in
-      let moved : copied page (length front) (length front + 1) m ≡ head ++ (first.bytes ++ (text_of m back ++ rest)) =
-      rw kept (overwritten_at (head ++ first.bytes) (text_of m first.others) rest (text_of m back) page (1 + 8 * (length front + 1)) (length-append head first.bytes ∙ omega (arith, length-head, first.width)) (length-text_of m first.others ∙ sym (length-text_of m back)) split ∙ append_assoc head first.bytes (text_of m back ++ rest)) in
-      overwritten_at head first.bytes (text_of m back ++ rest) (text new) (copied page (length front) (length front + 1) m) (1 + 8 * length front) length-head first.width moved
+      let whole = is ∙ render_from back in
+      let taken : take (8 * m) (drop (1 + 8 * place) page) ≡ kept =
+      taken_at head kept (last.bytes ++ rest) page (1 + 8 * place) (8 * m) (whole ∙ rw last.split (simp append_assoc)) length-head width in
+      let further : length (head ++ first.bytes) ≡ 1 + 8 * (place + 1) = omega (arith, length-append head first.bytes, length-head, first.width) in
+      let moved : copied page place (place + 1) m ≡ head ++ (first.bytes ++ (kept ++ rest)) =
+      rw
+      (taken, ← append_assoc head first.bytes (kept ++ rest))
+      (overwritten_at (head ++ first.bytes) (text_of m first.others) rest page (1 + 8 * (place + 1)) (8 * m) (whole ∙ rw first.split (simp append_assoc)) further (length-text_of m first.others) kept width) in
+      overwritten_at head first.bytes (kept ++ rest) (copied page place (place + 1) m) (1 + 8 * place) 8 moved length-head first.width (text new) refl
       ∙ sym (render_from (new ∷ back))
 
   -- the places after one moved by one place to the left, over it, and the last one emptied
@@ -116,21 +114,28 @@ module _ (front : List Stack) (within : length front < 32) (page rest : List ℕ
       → length (front ++ (old ∷ back)) ≤ 32
       → page ≡ render (front ++ (old ∷ back)) ++ rest
       → with_closed page (length front) ≡ render (front ++ back) ++ rest
-  unfolding text_of after
+  unfolding text_of
   closed_text old back few is =
-      let m = 31 - length front in
+      let place = length front in
+      let m = 31 - place in
+      let kept = text_of m back in
+      let width = length-text_of m back in
       let last = last_place m (old ∷ back) in
       let end = last_place m back in
-      let width = length-text_of m back in
-      let kept : take (8 * m) (drop (1 + 8 * (length front + 1)) page) ≡ text_of m back =
-      rw (is, render_from (old ∷ back), ← append_assoc head (text old) (text_of m back ++ rest), drop_at (head ++ text old) (text_of m back ++ rest) (1 + 8 * (length front + 1)) (length-append head (text old) ∙ omega (arith, length-head)), take_at (text_of m back) rest (8 * m) width) refl in
+      let whole = is ∙ render_from (old ∷ back) in
+      let further : length (head ++ text old) ≡ 1 + 8 * (place + 1) = omega (arith, length-append head (text old), length-head) in
+      let taken : take (8 * m) (drop (1 + 8 * (place + 1)) page) ≡ kept =
+      taken_at (head ++ text old) kept rest page (1 + 8 * (place + 1)) (8 * m) (whole ∙ sym (append_assoc head (text old) (kept ++ rest))) further width in
       let split : page ≡ head ++ (text_of m (old ∷ back) ++ (last.bytes ++ rest)) =
       is ∙ rw (← append_assoc (text_of m (old ∷ back)) last.bytes rest, ← last.split) (render_from (old ∷ back)) in
-      let moved : copied page (length front + 1) (length front) m ≡ (head ++ text_of m back) ++ (last.bytes ++ rest) =
-      rw (kept, append_assoc) (overwritten_at head (text_of m (old ∷ back)) (last.bytes ++ rest) (text_of m back) page (1 + 8 * length front) length-head (length-text_of m (old ∷ back) ∙ sym width) split) in
+      let moved : copied page (place + 1) place m ≡ (head ++ kept) ++ (last.bytes ++ rest) =
+      rw
+      (taken, append_assoc)
+      (overwritten_at head (text_of m (old ∷ back)) (last.bytes ++ rest) page (1 + 8 * place) (8 * m) split length-head (length-text_of m (old ∷ back)) kept width) in
+      let end_at : length (head ++ kept) ≡ 249 = omega (arith, length-append head kept, length-head, width) in
       let spaces = end.spaces (omega (arith, length-append front (old ∷ back))) in
-      overwritten_at (head ++ text_of m back) last.bytes rest empty_text (copied page (length front + 1) (length front) m) 249 (length-append head (text_of m back) ∙ omega (arith, length-head, width)) last.width moved
-      ∙ sym (render_from back ∙ rw (end.split, spaces, append_assoc, append_assoc) refl)
+      overwritten_at (head ++ kept) last.bytes rest (copied page (place + 1) place m) 249 8 moved end_at last.width empty_text refl
+      ∙ sym (render_from back ∙ rw (end.split, spaces) (simp append_assoc))
 
 -- the text of no stacks
 
