@@ -1,5 +1,4 @@
-use Rattle.std.proofs.Common.{◌≡◌, ℕ, List, ◌++◌, drop, ap, ◌∙◌, sym, subst, arith}
-use Rattle.std.specs.Array.{IsFirstChunk}
+use Rattle.std.proofs.Common.{◌≡◌, ◌++◌, drop, sym, refl, subst, arith}
 use Rattle.std.proofs.lemmas.Bool.Decides.{nat_tests}
 use Rattle.page.specs.Holdings.{Emptied}
 use Rattle.page.specs.Calls.{blank_page}
@@ -10,9 +9,7 @@ use Rattle.page.proofs.blanking.blank.Goals as goal
 pub returns : goal.returns
 returns c =
     let page = c.args.page.now in
-    let first : IsFirstChunk page c.in_ok-bytes.bytes.now 257 = grind arith in
-    let left : c.clear.new.page ++ drop 257 page ≡ blank_page page =
-    ap (λ (front : List ℕ). front ++ drop 257 page) (c.clear.ensures ∙ sym render_empty) in
+    let left : c.clear.new.page ++ drop 257 page ≡ blank_page page = rw (c.clear.ensures, render_empty) refl in
     record {
       answers = grind (arith, nat_tests);
       leaves = left;
