@@ -1,5 +1,5 @@
 -- The pages that edits leave are bags again, of the edited stacks.
-use Rattle.std.proofs.Common.{◌≡◌, ℕ, ◌+◌, ◌≤◌, true, false, List, [], ◌++◌, length, drop, Ok, sym, ap, ◌∙◌, ap₂, arith}
+use Rattle.std.proofs.Common.{◌≡◌, ℕ, ◌+◌, ◌≤◌, true, false, List, [], ◌++◌, length, drop, Ok, refl, arith}
 use Rattle.std.proofs.lemmas.List.{drop_at}
 use Rattle.std.proofs.lemmas.Bool.{cond-true}
 use Rattle.std.proofs.lemmas.Bool.Decides.{nat_tests}
@@ -36,50 +36,16 @@ in_range items kind amount = (
 
 -- a page rewritten with lawful stacks
 
-pub rewritten_bag : (page : List ℕ) (ss : List Stack) → Lawful ss → is_bag (rewritten page ss) ≡ true
-rewritten_bag page ss lawful = is_bag-render ss (drop 257 page) lawful
-
-pub rewritten-stacks : (page : List ℕ) (ss : List Stack) → Lawful ss → stacks (rewritten page ss) ≡ ss
-rewritten-stacks page ss lawful = stacks-render ss (drop 257 page) lawful
-
-pub rewritten_rest : (page : List ℕ) (ss : List Stack) → drop 257 (rewritten page ss) ≡ drop 257 page
-rewritten_rest page ss = drop_at (render ss) (drop 257 page) 257 (length-render ss)
-
-pub rewritten_again : (page : List ℕ) (ss new : List Stack) → rewritten (rewritten page ss) new ≡ rewritten page new
-rewritten_again page ss new = ap (λ (rest : List ℕ). render new ++ rest) (rewritten_rest page ss)
-
--- a bag's page after a removal
-
-module _ (page : List ℕ) (bag : is_bag page ≡ true) (items : Stack) (enough : items.amount ≤ held items.kind (stacks page)) where
-  lawful_after : Lawful (removed items (stacks page))
-  lawful_after = lawful_removed items (stacks page) enough (lawful_stacks page bag)
-
-  module _ (left : List ℕ) (is : left ≡ removed_page page items) where
-    pub removed-stacks : stacks left ≡ removed items (stacks page)
-    removed-stacks = ap stacks is ∙ rewritten-stacks page (removed items (stacks page)) lawful_after
-
-    pub removed_bag : is_bag left ≡ true
-    removed_bag = ap is_bag is ∙ rewritten_bag page (removed items (stacks page)) lawful_after
-
-    -- and after an adding to that
-    pub crafted_page_is : (into : Stack) (done : List ℕ) → done ≡ added_page left into → done ≡ crafted_page page items into
-    crafted_page_is into done done_is =
-        done_is
-        ∙ ap₂ (λ (bytes : List ℕ) (ss : List Stack). rewritten bytes (added into ss)) is removed-stacks
-        ∙ rewritten_again page (removed items (stacks page)) (crafted items into (stacks page))
-
--- what a page holds of a kind, by its stacks
-
-held_in_bag : (kind : ℕ) (page : List ℕ) → is_bag page ≡ true → held_in kind page ≡ held kind (stacks page)
-held_in_bag kind page bag = cond-true (is_bag page) (held kind (stacks page)) 0 bag
-
 module _ (page : List ℕ) (ss : List Stack) (lawful : Lawful ss) where
   pub bag_again : BagAgain page (rewritten page ss)
-  bag_again = record { bag = rewritten_bag page ss lawful; kept = rewritten_rest page ss }
+  bag_again =
+      record {
+        bag = is_bag-render ss (drop 257 page) lawful;
+        kept = drop_at (render ss) (drop 257 page) 257 (length-render ss);
+      }
 
-  pub held_in-rewritten : (kind : ℕ) → held_in kind (rewritten page ss) ≡ held kind ss
-  held_in-rewritten kind =
-      held_in_bag kind (rewritten page ss) (rewritten_bag page ss lawful) ∙ ap (held kind) (rewritten-stacks page ss lawful)
+  held_in-rewritten : (kind : ℕ) → held_in kind (rewritten page ss) ≡ held kind ss
+  held_in-rewritten kind = rw (bag_again.bag, stacks-render ss (drop 257 page) lawful) refl
 
 pub blank_empties : (page : List ℕ) → Emptied page (blank_page page)
 blank_empties page =
@@ -93,15 +59,14 @@ module _ (page : List ℕ) where
   add_raises items good =
       let bag : is_bag page ≡ true = grind (arith, nat_tests) in
       let range = in_range items (grind (arith, nat_tests)) (grind (arith, nat_tests)) in
-      let room : (no_room items (stacks page)).0 ≡ false = grind (arith, nat_tests) in
       let lawful = lawful_stacks page bag in
-      let after = lawful_added items (stacks page) range room lawful in
+      let after = lawful_added items (stacks page) range (grind (arith, nat_tests)) lawful in
       record {
         again = bag_again page (added items (stacks page)) after;
         holds = λ kind.
-            held_in-rewritten page (added items (stacks page)) after kind
-            ∙ held-added kind items 0 (stacks page) lawful.1
-            ∙ ap (λ (n : ℕ). n + count_of kind items) (sym (held_in_bag kind page bag));
+            rw
+            (held_in-rewritten page (added items (stacks page)) after kind, bag)
+            (held-added kind items 0 (stacks page) lawful.1);
       }
 
   pub remove_lowers : (items : Stack) → Ok (tt {0}) ≡ answer (remove_tests page items) tt → Lowered page (removed_page page items) items
@@ -113,9 +78,9 @@ module _ (page : List ℕ) where
       record {
         again = bag_again page (removed items (stacks page)) after;
         holds = λ kind.
-            ap (λ (n : ℕ). n + count_of kind items) (held_in-rewritten page (removed items (stacks page)) after kind)
-            ∙ held-removed kind items 0 (stacks page) lawful.1 enough
-            ∙ sym (held_in_bag kind page bag);
+            rw
+            (held_in-rewritten page (removed items (stacks page)) after kind, bag)
+            (held-removed kind items 0 (stacks page) lawful.1 enough);
       }
 
   pub craft_exchanges :
@@ -124,18 +89,13 @@ module _ (page : List ℕ) where
       let bag : is_bag page ≡ true = grind (arith, nat_tests) in
       let range = in_range into (grind (arith, nat_tests)) (grind (arith, nat_tests)) in
       let enough : out.amount ≤ held out.kind (stacks page) = grind (arith, nat_tests) in
-      let room : (no_room into (removed out (stacks page))).0 ≡ false = grind (arith, nat_tests) in
       let lawful = lawful_stacks page bag in
       let between = lawful_removed out (stacks page) enough lawful in
-      let after = lawful_added into (removed out (stacks page)) range room between in
+      let after = lawful_added into (removed out (stacks page)) range (grind (arith, nat_tests)) between in
       record {
         again = bag_again page (crafted out into (stacks page)) after;
         holds = λ kind.
-            omega (
-              arith,
-              held_in-rewritten page (crafted out into (stacks page)) after kind,
-              held-added kind into 0 (removed out (stacks page)) between.1,
-              held-removed kind out 0 (stacks page) lawful.1 enough,
-              held_in_bag kind page bag,
-            );
+            let more = held-added kind into 0 (removed out (stacks page)) between.1 in
+            let fewer = held-removed kind out 0 (stacks page) lawful.1 enough in
+            rw (held_in-rewritten page (crafted out into (stacks page)) after kind, bag) (omega arith);
       }

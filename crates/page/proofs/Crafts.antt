@@ -1,49 +1,43 @@
 -- A craft is a removal and then an adding: what its parts answer and leave.
-use Rattle.std.proofs.Common.{◌≡◌, ℕ, ◌≤◌, true, List, [], ◌∷◌, ◌++◌, Ok, Err, sym, ap, ◌∙◌, arith}
+use Rattle.std.proofs.Common.{◌≡◌, ℕ, ◌≤◌, true, List, drop, Ok, Err, Result, refl, ◌∙◌, arith}
 use Rattle.std.proofs.lemmas.Bool.Decides.{nat_tests}
-use Rattle.refusal.specs.Answers.{Test, answer}
-use Rattle.refusal.proofs.Outcomes.{passed_early}
+use Rattle.refusal.specs.Answers.{answer}
 use Rattle.page.specs.declared.contents.Stack.{Stack}
-use Rattle.page.specs.Calls.{add_tests, added_page, craft_tests, crafted_page, edit_tests, no_room, not_bag, not_enough, recipe_tests, remove_tests, removed_page, short_page}
+use Rattle.page.specs.Calls.{add_tests, added_page, craft_tests, crafted_page, recipe_tests, remove_tests, removed_page}
+use Rattle.page.specs.Holdings.{BagAgain}
 use Rattle.page.specs.Pages.{is_bag, stacks}
-use Rattle.page.specs.Stacks.{held, removed}
-use Rattle.page.proofs.Texts.{bag_parts}
-use Rattle.page.proofs.BagLaws.{crafted_page_is, removed-stacks, removed_bag}
+use Rattle.page.specs.Stacks.{Lawful, held, removed}
+use Rattle.page.proofs.BagLaws.{bag_again, lawful_removed}
+use Rattle.page.proofs.Texts.{bag_parts, lawful_stacks, stacks-render}
 
 module _ (page : List ℕ) (out into : Stack) (recipe : Ok (tt {0}) ≡ answer (recipe_tests out into) tt) where
   pub craft_not_removed :
       (n : ℕ) → Err n ≡ answer (remove_tests page out) (tt {0}) → Err n ≡ answer (craft_tests page out into) (tt {0})
   craft_not_removed n refused = grind (arith, nat_tests)
 
-  module _ (left : List ℕ) (good : Ok (tt {0}) ≡ answer (remove_tests page out) tt) (is : left ≡ removed_page page out) where
+  module _ (good : Ok (tt {0}) ≡ answer (remove_tests page out) tt) where
     bag : is_bag page ≡ true
     bag = grind (arith, nat_tests)
 
     enough : out.amount ≤ held out.kind (stacks page)
     enough = grind (arith, nat_tests)
 
-    -- the tests of a craft before its last one
-    before : List Test
-    before = short_page page ∷ (recipe_tests out into ++ (not_bag page ∷ not_enough out (stacks page) ∷ []))
+    lawful : Lawful (removed out (stacks page))
+    lawful = lawful_removed out (stacks page) enough (lawful_stacks page bag)
 
-    passed_before : Ok (tt {0}) ≡ answer before tt
-    unfolding before
-    passed_before = grind (arith, nat_tests)
+    again : BagAgain page (removed_page page out)
+    again = bag_again page (removed out (stacks page)) lawful
 
-    passed_left : Ok (tt {0}) ≡ answer (edit_tests left into) tt
-    passed_left =
-        let again = removed_bag page bag out enough left is in
-        let long = (bag_parts left again).long in
-        grind (arith, nat_tests)
+    left-stacks : stacks (removed_page page out) ≡ removed out (stacks page)
+    left-stacks = stacks-render (removed out (stacks page)) (drop 257 page) lawful
 
-    pub craft_after_removal : answer (add_tests left into) (tt {0}) ≡ answer (craft_tests page out into) tt
-    unfolding before
-    craft_after_removal =
-        passed_early (edit_tests left into) (no_room into (stacks left) ∷ []) tt passed_left
-        ∙ ap
-        (λ (ss : List Stack). answer (no_room into ss ∷ []) (tt {0}))
-        (removed-stacks page bag out enough left is)
-        ∙ sym (passed_early before (no_room into (removed out (stacks page)) ∷ []) tt passed_before)
+    pub craft_after_removal :
+        (answered : Result (Unit {0}) ℕ)
+        → answered ≡ answer (add_tests (removed_page page out) into) tt
+        → answered ≡ answer (craft_tests page out into) tt
+    craft_after_removal answered is =
+        let long = (bag_parts (removed_page page out) again.bag).long in
+        is ∙ rw (left-stacks, again.bag) (grind (arith, nat_tests))
 
-    pub crafted_after_removal : (done : List ℕ) → done ≡ added_page left into → done ≡ crafted_page page out into
-    crafted_after_removal done done_is = crafted_page_is page bag out enough left is into done done_is
+    pub crafted_after_removal : (left : List ℕ) → left ≡ added_page (removed_page page out) into → left ≡ crafted_page page out into
+    crafted_after_removal left is = is ∙ rw (left-stacks, again.kept) refl
