@@ -17,11 +17,11 @@ is_filled Malformed = false
 
 empty_last : (ps : List Place) (p : Place) → all_empty (ps ++ (p ∷ [])) ≡ true → is_filled p ≡ false
 empty_last [] Empty holds = refl
-empty_last [] (Filled s) holds = absurd (false≢true holds)
-empty_last [] Malformed holds = absurd (false≢true holds)
+empty_last [] (Filled s) holds = cc
+empty_last [] Malformed holds = refl
 empty_last (Empty ∷ ps) p holds = empty_last ps p holds
-empty_last (Filled s ∷ ps) p holds = absurd (false≢true holds)
-empty_last (Malformed ∷ ps) p holds = absurd (false≢true holds)
+empty_last (Filled s ∷ ps) p holds = cc
+empty_last (Malformed ∷ ps) p holds = cc
 
 full_by_last :
     (above : ℕ) (ps : List Place) (p : Place)
@@ -29,21 +29,14 @@ full_by_last :
     → leb (suc (length ps)) (length (stacks_in (ps ++ (p ∷ [])))) ≡ is_filled p
 full_by_last above [] Empty holds = refl
 full_by_last above [] (Filled s) holds = refl
-full_by_last above [] Malformed holds = absurd (false≢true holds)
+full_by_last above [] Malformed holds = refl
 full_by_last above (Empty ∷ ps) p holds = let none = empty_last ps p holds in grind (arith, nat_tests)
-full_by_last above (Filled s ∷ ps) p holds =
-    let rest = full_by_last s.kind ps p (and_parts (ltb above s.kind) (in_order s.kind (ps ++ (p ∷ []))) holds).1 in
-    grind (arith, nat_tests)
-full_by_last above (Malformed ∷ ps) p holds = absurd (false≢true holds)
+full_by_last above (Filled s ∷ ps) p holds = let rest = full_by_last s.kind ps p in grind (arith, nat_tests)
+full_by_last above (Malformed ∷ ps) p holds = cc
 
 pub bag_full : (page : List ℕ) → is_bag page ≡ true → leb 32 (length (stacks page)) ≡ is_filled (place_at page 31)
 unfolding stacks places
 bag_full page bag =
     let ps = map (place_at page) (range_with_len 0 31) in
     let split : places page ≡ ps ++ (place_at page 31 ∷ []) = map-range_with_len_more (place_at page) 0 31 31 refl in
-    let ordered : in_order 0 (ps ++ (place_at page 31 ∷ [])) ≡ true = sym (ap (in_order 0) split) ∙ (bag_parts page bag).ordered in
-    ap (λ (qs : List Place). leb 32 (length (stacks_in qs))) split
-    ∙ ap
-    (λ (n : ℕ). leb (suc n) (length (stacks_in (ps ++ (place_at page 31 ∷ [])))))
-    (sym (length-map-range_with_len (place_at page) 0 31))
-    ∙ full_by_last 0 ps (place_at page 31) ordered
+    rw split (full_by_last 0 ps (place_at page 31) (rw split at (bag_parts page bag).ordered))

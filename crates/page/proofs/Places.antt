@@ -20,12 +20,12 @@ places_from_none page = refl
 pub places_from_more : (page : List ℕ) (i : ℕ) → i < 32 → places_from page i ≡ place_at page i ∷ places_from page (i + 1)
 unfolding places_from
 places_from_more page i within =
-    let left : 32 - i ≡ suc (32 - (i + 1)) = omega arith in ap (λ (n : ℕ). map (place_at page) (range_with_len i n)) left
+    let left : 32 - i ≡ suc (32 - (i + 1)) = omega arith in rw left refl
 
 pub places_from_all : (page : List ℕ) (i : ℕ) → 32 ≤ i → places_from page i ≡ []
 unfolding places_from
 places_from_all page i past =
-    let left : 32 - i ≡ 0 = omega arith in ap (λ (n : ℕ). map (place_at page) (range_with_len i n)) left
+    let left : 32 - i ≡ 0 = omega arith in rw left refl
 
 pub is_bag_long :
     (page : List ℕ) → 257 ≤ length page → is_bag page ≡ (eqb (get_or page 0 0) 201 && in_order 0 (places page))
@@ -36,8 +36,7 @@ is_bag_long page long = rw (le-leb 257 (length page) long)
 pub place_at_part :
     (page : List ℕ) (i : ℕ) → place_in (take (1 + 8 * i + 8 - (1 + 8 * i)) (drop (1 + 8 * i) page)) ≡ place_at page i
 place_at_part page i =
-    let width : 1 + 8 * i + 8 - (1 + 8 * i) ≡ 8 = omega arith in
-    ap (λ (n : ℕ). place_in (take n (drop (1 + 8 * i) page))) width
+    let width : 1 + 8 * i + 8 - (1 + 8 * i) ≡ 8 = omega arith in rw width refl
 
 -- whether the places to come are what a bag's reader expects: kinds above one, or nothing more
 abbrev pub meets : Option ℕ → List Place → Bool
@@ -63,52 +62,40 @@ pub record Unread (page rest : List ℕ) (above : Option ℕ) : Type 0 where
 pub unread_none : (page : List ℕ) → length page ≡ 257 → Unread page (take 256 (drop 1 page)) (Some 0)
 unread_none page long =
     let width : length (drop 1 page) ≡ 256 = length-drop 1 page ∙ omega (arith, long) in
-    let all = take_all 256 (drop 1 page) (omega (arith, width)) in
-    record { count = 32; width = ap length all ∙ width; decides = ap (λ (bytes : List ℕ). in_order 0 (places_in 32 bytes)) all ∙ ap (in_order 0) (sym (places_of page)) }
-
-places_in_more :
-    (n : ℕ) (chunk later : List ℕ) → length chunk ≡ 8 → places_in (suc n) (chunk ++ later) ≡ place_in chunk ∷ places_in n later
-unfolding places_in
-places_in_more n chunk later eight =
-    ap₂ (λ (front back : List ℕ). place_in front ∷ places_in n back) (take_at chunk later 8 eight) (drop_at chunk later 8 eight)
+    rw
+    (take_all 256 (drop 1 page) (omega (arith, width)))
+    (record { count = 32; width = width; decides = rw (places_of page) refl })
 
 module _ (page rest chunk later : List ℕ) (above : Option ℕ) (split : rest ≡ chunk ++ later) (eight : length chunk ≡ 8) where
-  first_unread :
-      (n : ℕ)
-      → length rest ≡ 8 * n
-      → (m : ℕ) × (length later ≡ 8 * m) × (places_in n rest ≡ place_in chunk ∷ places_in m later)
-  first_unread zero width = absurd (omega (arith, ap length split, length-append chunk later))
-  first_unread (suc m) width =
-      (m, omega (arith, ap length split, length-append chunk later), ap (places_in (suc m)) split ∙ places_in_more m chunk later eight)
-
   -- what the first place that is still to come decides
   first_decides :
-      (unread : Unread page rest above)
+      (count : ℕ)
+      → length rest ≡ 8 * count
+      → meets above (places_in count rest) ≡ in_order 0 (places page)
       → (m : ℕ)
       × (length later ≡ 8 * m)
       × ((may_follow above (place_in chunk) && meets (kind_at (place_in chunk)) (places_in m later)) ≡ in_order 0 (places page))
-  first_decides unread =
-      let first = first_unread unread.count unread.width in (
-        first.0,
-        first.1,
-        sym (meets_more above (place_in chunk) (places_in first.0 later)) ∙ ap (meets above) (sym first.2) ∙ unread.decides,
-      )
+  unfolding places_in
+  first_decides zero width decides = absurd (omega (arith, ap length split, length-append chunk later))
+  first_decides (suc m) width decides = (
+    m,
+    omega (arith, ap length split, length-append chunk later),
+    rw (split, take_at chunk later 8 eight, drop_at chunk later 8 eight, meets_more above (place_in chunk) (places_in m later)) at decides,
+  )
 
   pub unread_more :
       may_follow above (place_in chunk) ≡ true → Unread page rest above → Unread page later (kind_at (place_in chunk))
   unread_more may unread =
-      let first = first_decides unread in record { count = first.0; width = first.1; decides = rw may at first.2 }
+      let first = first_decides unread.count unread.width unread.decides in
+      record { count = first.0; width = first.1; decides = rw may at first.2 }
 
   pub unread_spoilt : may_follow above (place_in chunk) ≡ false → Unread page rest above → false ≡ in_order 0 (places page)
-  unread_spoilt may_not unread = rw may_not at (first_decides unread).2
-
-nothing_unread : (next : Option ℕ) (rest : List ℕ) → meets next (places_in zero rest) ≡ true
-unfolding places_in
-nothing_unread (Some kind) rest = refl
-nothing_unread None rest = refl
+  unread_spoilt may_not unread = rw may_not at (first_decides unread.count unread.width unread.decides).2
 
 pub unread_all :
     (page rest : List ℕ) (above : Option ℕ) → length rest < 8 → Unread page rest above → true ≡ in_order 0 (places page)
-unread_all page rest above short unread =
-    let none : unread.count ≡ 0 = omega (arith, unread.width) in
-    sym (nothing_unread above rest) ∙ ap (λ (n : ℕ). meets above (places_in n rest)) (sym none) ∙ unread.decides
+unfolding places_in
+unread_all page rest (Some kind) short unread =
+    let none : unread.count ≡ 0 = omega (arith, unread.width) in rw none at unread.decides
+unread_all page rest None short unread =
+    let none : unread.count ≡ 0 = omega (arith, unread.width) in rw none at unread.decides

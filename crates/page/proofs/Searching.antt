@@ -25,9 +25,7 @@ pub held_below : (kind above : ℕ) (ps : List Place) → kind ≤ above → in_
 held_below kind above [] below ordered = refl
 held_below kind above (Empty ∷ ps) below ordered = refl
 held_below kind above (Filled s ∷ ps) below ordered =
-    let parts = and_parts (ltb above s.kind) (in_order s.kind ps) ordered in
-    let higher : kind < s.kind = grind (arith, nat_tests) in
-    let rest : held kind (stacks_in ps) ≡ 0 = held_below kind s.kind ps (omega arith) parts.1 in
+    let rest = held_below kind s.kind ps in
     grind (arith, nat_tests)
 held_below kind above (Malformed ∷ ps) below ordered = refl
 
@@ -49,12 +47,11 @@ stops_here :
     → in_order above (p ∷ ps) ≡ true
     → Some amount ≡ stops_with kind p
     → (spot kind (stacks_in (p ∷ ps)) ≡ 0) × (held kind (stacks_in (p ∷ ps)) ≡ amount)
-stops_here kind above Empty ps amount ordered stops = (refl, grind (arith, nat_tests))
+stops_here kind above Empty ps amount ordered stops = (refl, cc)
 stops_here kind above (Filled s) ps amount ordered stops =
-    let parts = and_parts (ltb above s.kind) (in_order s.kind ps) ordered in
-    let absent : kind ≤ s.kind → held kind (stacks_in ps) ≡ 0 = λ below. held_below kind s.kind ps below parts.1 in
+    let absent = held_below kind s.kind ps in
     (grind (arith, nat_tests), grind (arith, nat_tests))
-stops_here kind above Malformed ps amount ordered stops = (refl, grind (arith, nat_tests))
+stops_here kind above Malformed ps amount ordered stops = (refl, cc)
 
 goes_on :
     (kind above : ℕ) (p : Place) (ps : List Place)
@@ -64,11 +61,10 @@ goes_on :
     × (in_order passed ps ≡ true)
     × (spot kind (stacks_in (p ∷ ps)) ≡ suc (spot kind (stacks_in ps)))
     × (held kind (stacks_in (p ∷ ps)) ≡ held kind (stacks_in ps))
-goes_on kind above Empty ps ordered stops = absurd (grind (arith, nat_tests))
+goes_on kind above Empty ps ordered stops = absurd (cc)
 goes_on kind above (Filled s) ps ordered stops =
-    let parts = and_parts (ltb above s.kind) (in_order s.kind ps) ordered in
-    (s.kind, parts.1, grind (arith, nat_tests), grind (arith, nat_tests))
-goes_on kind above Malformed ps ordered stops = absurd (grind (arith, nat_tests))
+    (s.kind, grind (arith, nat_tests), grind (arith, nat_tests), grind (arith, nat_tests))
+goes_on kind above Malformed ps ordered stops = absurd (cc)
 
 -- what the search has to answer
 abbrev pub Stopped : List ℕ → ℕ → ℕ → ℕ → Type 0
