@@ -1,6 +1,5 @@
 -- The eight columns of a place, one by one.
 use Rattle.std.proofs.Common.{◌≡◌, ℕ, true, false, ◌&&◌, eqb, List, [], ◌∷◌, length, get_or, sym, refl, ap, ◌∙◌}
-use Rattle.std.proofs.lemmas.Bool.{cond-true, cond-false, eq-eqb, and_from}
 use Rattle.std.proofs.lemmas.List.FromFn.{fill_by_all}
 use Rattle.decimal.specs.Columns.{blank, numeral, value}
 use Rattle.page.specs.Places.{place_in, contents}
@@ -19,11 +18,10 @@ eight : (xs : List ℕ) → length xs ≡ 8 → xs ≡ eight_columns xs
 eight xs count = fill_by_all (λ k. get_or xs k 0) xs 8 0 count (λ k within. refl)
 
 place_in_eight : (xs : List ℕ) → length xs ≡ 8 → place_in xs ≡ contents (eight_columns xs)
-place_in_eight xs count =
-    cond-true (eqb (length xs) 8) (contents xs) Malformed (eq-eqb (length xs) 8 count) ∙ ap contents (eight xs count)
+place_in_eight xs count = rw count (ap contents (eight xs count))
 
 pub reads_empty : (xs : List ℕ) → length xs ≡ 8 → blank (eight_columns xs) ≡ true → Empty ≡ place_in xs
-reads_empty xs count spaces = sym (place_in_eight xs count ∙ cond-true (blank (eight_columns xs)) Empty _ spaces)
+reads_empty xs count spaces = rw (place_in_eight xs count, spaces) refl
 
 pub reads_filled :
     (xs : List ℕ)
@@ -32,11 +30,7 @@ pub reads_filled :
     → numeral (kind_columns xs) ≡ true
     → numeral (amount_columns xs) ≡ true
     → Filled (record { kind = value (kind_columns xs); amount = value (amount_columns xs) }) ≡ place_in xs
-reads_filled xs count filled kind amount =
-    sym
-    (place_in_eight xs count
-    ∙ cond-false (blank (eight_columns xs)) Empty _ filled
-    ∙ cond-true (numeral (kind_columns xs) && numeral (amount_columns xs)) _ Malformed (and_from _ _ kind amount))
+reads_filled xs count filled kind amount = rw (place_in_eight xs count, filled, kind, amount) refl
 
 pub reads_malformed :
     (xs : List ℕ)
@@ -44,8 +38,4 @@ pub reads_malformed :
     → blank (eight_columns xs) ≡ false
     → (numeral (kind_columns xs) && numeral (amount_columns xs)) ≡ false
     → Malformed ≡ place_in xs
-reads_malformed xs count filled other =
-    sym
-    (place_in_eight xs count
-    ∙ cond-false (blank (eight_columns xs)) Empty _ filled
-    ∙ cond-false (numeral (kind_columns xs) && numeral (amount_columns xs)) _ Malformed other)
+reads_malformed xs count filled other = rw (place_in_eight xs count, filled, other) refl

@@ -1,6 +1,5 @@
-use Rattle.std.proofs.Common.{◌≡◌, ◌+◌, ◌-◌, ◌*◌, ◌≤◌, length, drop, ◌∙◌, arith}
-use Rattle.std.proofs.lemmas.List.{length-drop}
-use Rattle.page.proofs.Overwrites.{overwritten_copy}
+use Rattle.std.proofs.Common.{◌≡◌, ◌+◌, ◌-◌, ◌*◌, ◌≤◌, length, drop, append_assoc, refl, ◌∙◌, arith}
+use Rattle.std.proofs.lemmas.List.{length-drop, length-take-le}
 use Rattle.page.proofs.layout.copy_places.Goals as goal
 
 pub returns : goal.returns
@@ -11,4 +10,4 @@ returns c =
     let within : width ≤ length (drop start c.args.page.now) =
     omega (arith, length-drop start c.args.page.now, c.told-page, c.requires.source) in
     c.copy_within.ensures.after
-    ∙ overwritten_copy c.args.page.now (1 + 8 * c.args.to) start width (start + width - start) same within
+    ∙ rw (same, append_assoc, length-take-le width (drop start c.args.page.now) within) refl
