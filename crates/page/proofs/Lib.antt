@@ -9,7 +9,6 @@ pub mod Rising
 pub mod Finding
 pub mod Counting
 pub mod Amounts
-pub mod Overwrites
 pub mod TextEdits
 pub mod BagEdits
 pub mod Fullness
