@@ -4,4 +4,4 @@ use Rattle.page.proofs.FirstBytes.{is_bag-first}
 use Rattle.page.proofs.bag.read.Goals as goal
 
 pub returns : goal.returns
-returns c = let same = is_bag-first c.args.page.now in grind (arith, nat_tests)
+returns c = grind (arith, nat_tests, is_bag-first)

@@ -6,12 +6,10 @@ use Rattle.page.proofs.BagLaws.{blank_empties}
 use Rattle.page.proofs.TextEdits.{render_empty}
 use Rattle.page.proofs.blanking.blank.Goals as goal
 
-pub returns : goal.returns
-returns c =
+pub returns-clause-leaves : goal.returns-clause-leaves
+returns-clause-leaves c = rw (c.clear.ensures, render_empty) refl
+
+pub returns-clause-holds : goal.returns-clause-holds
+returns-clause-holds c =
     let page = c.args.page.now in
-    let left : c.clear.new.page ++ drop 257 page ≡ blank_page page = rw (c.clear.ensures, render_empty) refl in
-    record {
-      answers = grind (arith, nat_tests);
-      leaves = left;
-      holds = subst (Emptied page) (sym left) (blank_empties page);
-    }
+    subst (Emptied page) (sym (returns-clause-leaves c)) (blank_empties page)

@@ -9,21 +9,14 @@ use Rattle.page.proofs.search.find.Goals as goal
 
 pub returns-in_err-check_kind-clause-answers : goal.returns-in_err-check_kind-clause-answers
 returns-in_err-check_kind-clause-answers c =
-    let refused = err_from_is_err_and c.from_residual-in_err-check_kind.result c.from_residual-in_err-check_kind.ensures.1 in
     let long : 257 ≤ length c.args.page.now = grind arith in
     grind (arith, nat_tests)
 
 pub returns-in_err-bag-clause-answers : goal.returns-in_err-bag-clause-answers
-returns-in_err-bag-clause-answers c =
-    let same = is_bag-first c.args.page.now in
-    let refused = err_from_is_err_and c.from_residual-in_err-bag.result c.from_residual-in_err-bag.ensures.1 in
-    grind (arith, nat_tests)
+returns-in_err-bag-clause-answers c = grind (arith, nat_tests, is_bag-first)
 
 pub returns-clause-answers : goal.returns-clause-answers
-returns-clause-answers c =
-    let same = is_bag-first c.args.page.now in
-    let stacks_same = stacks-first c.args.page.now in
-    grind (arith, nat_tests)
+returns-clause-answers c = grind (arith, nat_tests, is_bag-first, stacks-first)
 
 pub returns-clause-stops : goal.returns-clause-stops
 returns-clause-stops c =

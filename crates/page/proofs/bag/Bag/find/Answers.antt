@@ -13,6 +13,5 @@ returns-then-place-eq-PLACES c = search (rules, stopped_at_end)
 
 pub returns-in-Some : goal.returns-in-Some
 returns-in-Some c =
-    let stops = c.in-Some.ensures in
     let within : c.loop-place.place < 32 = omega arith in
-    stopped_at c.args.self.page.now c.args.self.is_bag c.args.kind c.loop-place.place c.loop-place.invariant c.in-Some.amount within (cc c.place_at.ensures)
+    stopped_at c.args.self.page.now c.args.self.is_bag c.args.kind c.loop-place.place c.loop-place.invariant c.in-Some.amount within (cc c.in-Some.ensures)
