@@ -1,5 +1,5 @@
 -- The place where a search stops parts the smaller kinds from the others, and the amount is that of the whole bag.
-use Rattle.std.proofs.Common.{◌≡◌, ℕ, ◌<◌, ◌≤◌, ltb, suc, List, [], ◌∷◌, take, drop, sum_by, refl, ◌∙◌, arith}
+use Rattle.std.proofs.Common.{◌≡◌, ℕ, true, ◌<◌, ◌≤◌, ltb, suc, List, [], ◌∷◌, take, drop, sum_by, refl, ◌∙◌, arith}
 use Rattle.std.specs.List.{All}
 use Rattle.std.proofs.lemmas.List.Elements.{All-cons}
 use Rattle.std.proofs.lemmas.List.Sums.{sum_by-cons}
@@ -8,8 +8,10 @@ use Rattle.std.proofs.lemmas.Bool.Decides.{nat_tests}
 use Rattle.page.specs.declared.contents.Stack.{Stack}
 use Rattle.page.specs.Holdings.{StopsAt, count_of}
 use Rattle.page.specs.Stacks.{RisingFrom, held, spot}
+use Rattle.page.specs.Pages.{is_bag, stacks}
 use Rattle.page.proofs.Finding.{spot_most}
 use Rattle.page.proofs.Rising.{held_absent}
+use Rattle.page.proofs.Texts.{lawful_stacks}
 
 none_smaller : (kind above : ℕ) (ss : List Stack) → kind ≤ above → RisingFrom above ss → All (λ t. kind ≤ t.kind) ss
 none_smaller kind above [] low rising = λ k d none. absurd (omega arith)
@@ -40,16 +42,17 @@ held_total kind above (s ∷ ss) rising =
     grind (arith, nat_tests)
 
 pub stops_at :
-    (kind : ℕ) (ss : List Stack) (place amount : ℕ)
-    → RisingFrom 0 ss
-    → place ≡ spot kind ss
-    → amount ≡ held kind ss
-    → StopsAt kind ss place amount
-stops_at kind ss place amount rising at is =
-    let parts = parted kind 0 ss rising in
+    (page : List ℕ) (kind place amount : ℕ)
+    → is_bag page ≡ true
+    → place ≡ spot kind (stacks page)
+    → amount ≡ held kind (stacks page)
+    → StopsAt kind (stacks page) place amount
+stops_at page kind place amount bag at is =
+    let rising = (lawful_stacks page bag).1 in
+    let parts = parted kind 0 (stacks page) rising in
     record {
       before = rw at parts.0;
       after = rw at parts.1;
-      within = omega (arith, spot_most kind ss);
-      total = is ∙ held_total kind 0 ss rising;
+      within = omega (arith, spot_most kind (stacks page));
+      total = is ∙ held_total kind 0 (stacks page) rising;
     }

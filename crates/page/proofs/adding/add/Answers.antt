@@ -3,19 +3,19 @@ use Rattle.page.specs.Calls.{add_tests}
 use Rattle.page.specs.Stacks.{added}
 use Rattle.page.specs.Holdings.{Raised}
 use Rattle.page.proofs.BagLaws.{add_raises}
-use Rattle.page.proofs.FirstBytes.{claims-first, is_bag-first, short_page-first, stacks-first}
+use Rattle.page.proofs.FirstBytes.{claims_first, is_bag_first, short_page_first, stacks_first}
 use Rattle.page.proofs.adding.add.Goals as goal
 
 pub returns : goal.returns
 returns c =
     let page = c.args.page.now in
     let items = c.args.items in
-    claims-first
+    claims_first
     page
     (λ (p : List ℕ). add_tests p items)
     (added items)
     (λ (left : List ℕ). Raised page left items)
-    (rw (short_page-first page, is_bag-first page, stacks-first page) refl)
+    (rw (short_page_first page, is_bag_first page, stacks_first page) refl)
     (add_raises page items)
     c.in_ok-bytes.bytes.now
     (grind arith)

@@ -2,7 +2,7 @@ use Rattle.std.proofs.Common.{◌≡◌, ◌≤◌, true, length, arith}
 use Rattle.std.proofs.lemmas.Result.{err_from_is_err_and}
 use Rattle.std.proofs.lemmas.Bool.Decides.{nat_tests}
 use Rattle.page.specs.Pages.{is_bag, stacks}
-use Rattle.page.proofs.FirstBytes.{is_bag-first, stacks-first}
+use Rattle.page.proofs.FirstBytes.{is_bag_first, stacks_first}
 use Rattle.page.proofs.Spots.{stops_at}
 use Rattle.page.proofs.Texts.{lawful_stacks}
 use Rattle.page.proofs.search.find.Goals as goal
@@ -13,15 +13,13 @@ returns-in_err-check_kind-clause-answers c =
     grind (arith, nat_tests)
 
 pub returns-in_err-bag-clause-answers : goal.returns-in_err-bag-clause-answers
-returns-in_err-bag-clause-answers c = grind (arith, nat_tests, is_bag-first)
+returns-in_err-bag-clause-answers c = grind (arith, nat_tests, is_bag_first)
 
 pub returns-clause-answers : goal.returns-clause-answers
-returns-clause-answers c = grind (arith, nat_tests, is_bag-first, stacks-first)
+returns-clause-answers c = grind (arith, nat_tests, is_bag_first, stacks_first)
 
 pub returns-clause-stops : goal.returns-clause-stops
 returns-clause-stops c =
     let page = c.args.page.now in
-    let same = is_bag-first page in
-    let stacks_same = stacks-first page in
-    let bag : is_bag page ≡ true = grind (arith, nat_tests) in
-    stops_at c.args.kind (stacks page) c.find.result.0 c.find.result.1 (lawful_stacks page bag).1 (grind arith) (grind arith)
+    let bag : is_bag page ≡ true = grind (arith, nat_tests, is_bag_first) in
+    stops_at page c.args.kind c.find.result.0 c.find.result.1 bag (grind (arith, stacks_first)) (grind (arith, stacks_first))
