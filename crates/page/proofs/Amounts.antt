@@ -10,6 +10,7 @@ pub held_most : (kind above : ℕ) (ss : List Stack) → RisingFrom above ss →
 held_most kind above [] rising = omega arith
 held_most kind above (s ∷ ss) rising = let rest = held_most kind s.kind ss rising.1.1 in grind (arith, nat_tests)
 
+-- an adding adds the amount to what is held of its kind, and nothing to any other
 pub held-added :
     (kind : ℕ) (items : Stack) (above : ℕ) (ss : List Stack)
     → RisingFrom above ss
@@ -26,6 +27,7 @@ held-added kind items above (s ∷ ss) rising =
     (λ same. grind (arith, nat_tests))
     (λ larger. let none = held_absent items.kind s.kind ss (omega arith) rising.1.1 in grind (arith, nat_tests))
 
+-- a removal takes the amount from what is held of its kind, and nothing from any other
 pub held-removed :
     (kind : ℕ) (items : Stack) (above : ℕ) (ss : List Stack)
     → RisingFrom above ss

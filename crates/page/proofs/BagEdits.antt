@@ -52,10 +52,12 @@ module _ (page : List ℕ) (bag : is_bag page ≡ true) (items : Stack) where
           (there, spotted.place, spotted.kind_is)
           (replaced_text spotted.front within page (drop 257 page) spotted.stack (amounting items amount) spotted.back split_page)
 
+      -- the stack found is raised
       pub raised_page :
           overwritten page (1 + 8 * place) (text (amounting items (held items.kind (stacks page) + items.amount))) ≡ added_page page items
       raised_page = rw (spotted.amount_is, spotted.raised items refl) (replaced_page (spotted.stack.amount + items.amount))
 
+      -- the stack found is lowered, and some of it is left
       pub lowered_page :
           (held items.kind (stacks page) ≡ items.amount → ⊥)
           → overwritten page (1 + 8 * place) (text (amounting items (held items.kind (stacks page) - items.amount)))

@@ -14,11 +14,13 @@ use Rattle.page.proofs.Counting.{length-added, length_removed}
 use Rattle.page.proofs.Rising.{rising_added, rising_removed}
 use Rattle.page.proofs.Texts.{is_bag-render, lawful_stacks, length-render, stacks-render}
 
+-- what a removal leaves can stand in a bag
 pub lawful_removed :
     (items : Stack) (ss : List Stack) → items.amount ≤ held items.kind ss → Lawful ss → Lawful (removed items ss)
 lawful_removed items ss enough lawful =
     (omega (arith, length_removed items ss, lawful.0), rising_removed items 0 ss enough lawful.1)
 
+-- what an adding leaves can stand in a bag, where there is room
 pub lawful_added :
     (items : Stack) (ss : List Stack) → InRange items → (no_room items ss).0 ≡ false → Lawful ss → Lawful (added items ss)
 lawful_added items ss range room lawful =

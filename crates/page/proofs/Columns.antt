@@ -23,6 +23,7 @@ place_in_eight xs count = rw count (ap contents (eight xs count))
 pub reads_empty : (xs : List ℕ) → length xs ≡ 8 → blank (eight_columns xs) ≡ true → Empty ≡ place_in xs
 reads_empty xs count spaces = rw (place_in_eight xs count, spaces) refl
 
+-- two numbers are a stack
 pub reads_filled :
     (xs : List ℕ)
     → length xs ≡ 8
@@ -32,6 +33,7 @@ pub reads_filled :
     → Filled (record { kind = value (kind_columns xs); amount = value (amount_columns xs) }) ≡ place_in xs
 reads_filled xs count filled kind amount = rw (place_in_eight xs count, filled, kind, amount) refl
 
+-- neither spaces nor two numbers are no place
 pub reads_malformed :
     (xs : List ℕ)
     → length xs ≡ 8

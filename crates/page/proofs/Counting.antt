@@ -12,6 +12,7 @@ length_removed items (s ∷ ss) =
     let after = length_removed items ss in
     removed_cases items s ss (λ left. length left ≤ suc (length ss)) (λ other. omega arith) (λ same all. omega arith) (λ same some. omega arith)
 
+-- an adding makes a stack more just where the kind was absent
 pub length-added :
     (items : Stack) (above : ℕ) (ss : List Stack)
     → RisingFrom above ss

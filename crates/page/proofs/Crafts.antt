@@ -11,6 +11,7 @@ use Rattle.page.proofs.BagLaws.{bag_again, lawful_removed}
 use Rattle.page.proofs.Texts.{bag_parts, lawful_stacks, stacks-render}
 
 module _ (page : List ℕ) (out into : Stack) (recipe : Ok (tt {0}) ≡ answer (recipe_tests out into) tt) where
+  -- a refusal of the removal is one of the craft
   pub craft_not_removed :
       (n : ℕ) → Err n ≡ answer (remove_tests page out) (tt {0}) → Err n ≡ answer (craft_tests page out into) (tt {0})
   craft_not_removed n refused = grind (arith, nat_tests)
@@ -31,6 +32,7 @@ module _ (page : List ℕ) (out into : Stack) (recipe : Ok (tt {0}) ≡ answer (
     left-stacks : stacks (removed_page page out) ≡ removed out (stacks page)
     left-stacks = stacks-render (removed out (stacks page)) (drop 257 page) lawful
 
+    -- after the removal the craft answers as the adding does
     pub craft_after_removal :
         (answered : Result (Unit {0}) ℕ)
         → answered ≡ answer (add_tests (removed_page page out) into) tt

@@ -10,6 +10,7 @@ abbrev pub amounting : Stack → ℕ → Stack
 amounting s amount = record { kind = s.kind; amount = amount }
 
 module _ (items s : Stack) (ss : List Stack) (P : List Stack → Type 0) where
+  -- a fact of what an adding leaves, by where the kind belongs
   pub added_cases :
       (s.kind < items.kind → P (s ∷ added items ss))
       → (s.kind ≡ items.kind → P (amounting s (s.amount + items.amount) ∷ ss))
@@ -24,6 +25,7 @@ module _ (items s : Stack) (ss : List Stack) (P : List Stack → Type 0) where
       (λ is. past (ltb-true _ _ is))
       (λ other. cond_both (eqb s.kind items.kind) _ _ P (λ is. here (eqb-true _ _ is)) (λ is. before (grind (arith, nat_tests))))
 
+  -- a fact of what a removal leaves, by whether the kind is there and all of it goes
   pub removed_cases :
       ((s.kind ≡ items.kind → ⊥) → P (s ∷ removed items ss))
       → (s.kind ≡ items.kind → s.amount ≡ items.amount → P ss)

@@ -23,6 +23,7 @@ empty_last (Empty ∷ ps) p holds = empty_last ps p holds
 empty_last (Filled s ∷ ps) p holds = cc
 empty_last (Malformed ∷ ps) p holds = cc
 
+-- all places hold stacks just where the last one does
 full_by_last :
     (above : ℕ) (ps : List Place) (p : Place)
     → in_order above (ps ++ (p ∷ [])) ≡ true

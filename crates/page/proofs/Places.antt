@@ -27,6 +27,7 @@ unfolding places_from
 places_from_all page i past =
     let left : 32 - i ≡ 0 = omega arith in rw left refl
 
+-- what is left to test of a page that is long enough
 pub is_bag_long :
     (page : List ℕ) → 257 ≤ length page → is_bag page ≡ (eqb (get_or page 0 0) 201 && in_order 0 (places page))
 unfolding is_bag
@@ -43,6 +44,7 @@ abbrev pub meets : Option ℕ → List Place → Bool
 meets (Some above) ps = in_order above ps
 meets None ps = all_empty ps
 
+-- the first place decides by itself, and by what may follow it
 meets_more :
     (above : Option ℕ) (p : Place) (ps : List Place) → meets above (p ∷ ps) ≡ (may_follow above p && meets (kind_at p) ps)
 meets_more (Some kind) Empty ps = refl
@@ -83,6 +85,7 @@ module _ (page rest chunk later : List ℕ) (above : Option ℕ) (split : rest �
     rw (split, take_at chunk later 8 eight, drop_at chunk later 8 eight, meets_more above (place_in chunk) (places_in m later)) at decides,
   )
 
+  -- a place that may follow leaves the later ones to decide
   pub unread_more :
       may_follow above (place_in chunk) ≡ true → Unread page rest above → Unread page later (kind_at (place_in chunk))
   unread_more may unread =
@@ -92,6 +95,7 @@ module _ (page rest chunk later : List ℕ) (above : Option ℕ) (split : rest �
   pub unread_spoilt : may_follow above (place_in chunk) ≡ false → Unread page rest above → false ≡ in_order 0 (places page)
   unread_spoilt may_not unread = rw may_not at (first_decides unread.count unread.width unread.decides).2
 
+-- a page that is read to its end is in order
 pub unread_all :
     (page rest : List ℕ) (above : Option ℕ) → length rest < 8 → Unread page rest above → true ≡ in_order 0 (places page)
 unfolding places_in

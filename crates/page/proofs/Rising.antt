@@ -15,6 +15,7 @@ held_absent kind above (s ∷ ss) below rising =
     let rest = held_absent kind s.kind ss (omega arith) rising.1.1 in
     grind (arith, nat_tests)
 
+-- an adding keeps the order and the ranges
 pub rising_added :
     (items : Stack) (range : InRange items) (above : ℕ) (ss : List Stack)
     → above < items.kind
@@ -32,6 +33,7 @@ rising_added items range above (s ∷ ss) higher room rising =
     (λ same. (rising.0, ((rising.1.0.0, (omega (arith, range.1), grind (arith, nat_tests))), rising.1.1)))
     (λ larger. (higher, (range, (larger, rising.1))))
 
+-- a removal keeps the order and the ranges
 pub rising_removed :
     (items : Stack) (above : ℕ) (ss : List Stack)
     → items.amount ≤ held items.kind ss

@@ -88,6 +88,7 @@ module _ (page : List ℕ) (bag : is_bag page ≡ true) (kind place : ℕ) (so_f
   pub stopped_at_end : 32 ≤ place → Stopped page kind place 0
   stopped_at_end past = stopped 0 (rw (places_from_all page place past) refl)
 
+  -- the search stops at a place that gives an amount
   pub stopped_at :
       (amount : ℕ) → place < 32 → Some amount ≡ stops_with kind (place_at page place) → Stopped page kind place amount
   stopped_at amount within stops = stopped amount (rw (places_from_more page place within, ← stops) refl)

@@ -18,6 +18,7 @@ none_smaller kind above [] low rising = λ k d none. absurd (omega arith)
 none_smaller kind above (s ∷ ss) low rising =
     All-cons (λ (t : Stack). kind ≤ t.kind) s ss (omega (arith, rising.0)) (none_smaller kind s.kind ss (omega (arith, rising.0)) rising.1.1)
 
+-- before the spot all kinds are smaller, and from it on none is
 parted :
     (kind above : ℕ) (ss : List Stack)
     → RisingFrom above ss
@@ -41,6 +42,7 @@ held_total kind above (s ∷ ss) rising =
     let first = sum_by-cons (count_of kind) s ss in
     grind (arith, nat_tests)
 
+-- the spot and the amount held of a kind are what find says of a bag's stacks
 pub stops_at :
     (page : List ℕ) (kind place amount : ℕ)
     → is_bag page ≡ true

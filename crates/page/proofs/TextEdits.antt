@@ -22,6 +22,7 @@ module _ (head old tail page : List ℕ) (start count : ℕ) (is : page ≡ head
 
 -- the text of places, cut before a place, after its first place, and before its last one
 
+-- the text of some stacks and others after them
 text_of-append :
     (xs ys : List Stack) (m : ℕ) → text_of (length xs + m) (xs ++ ys) ≡ text_of (length xs) xs ++ text_of m ys
 unfolding text_of

@@ -35,6 +35,7 @@ unfolding places_in text_of
 empty_read zero rest = refl
 empty_read (suc n) rest = empty_read n rest
 
+-- the text of stacks is in order, and holds them
 stacks_read :
     (n above : ℕ) (ss : List Stack) (rest : List ℕ)
     → length ss ≤ n
@@ -53,6 +54,7 @@ stacks_read (suc n) above (s ∷ ss) rest few rising =
 eight_more : (n : ℕ) (bytes : List ℕ) → take (8 * suc n) bytes ≡ take 8 bytes ++ take (8 * n) (drop 8 bytes)
 eight_more n bytes = let width : 8 * suc n ≡ 8 + 8 * n = omega arith in rw width (take-add 8 (8 * n) bytes)
 
+-- places that are all empty have the text of no stacks
 empty_only :
     (n : ℕ) (bytes : List ℕ) (ps : List Place) → places_in n bytes ≡ ps → all_empty ps ≡ true → take (8 * n) bytes ≡ text_of n []
 unfolding places_in text_of
@@ -69,6 +71,7 @@ record OnlyText (n above : ℕ) (bytes : List ℕ) (ss : List Stack) : Type 0 wh
   pub few : length ss ≤ n
   pub rising : RisingFrom above ss
 
+-- places that are in order have the text of their stacks alone
 stacks_only :
     (n above : ℕ) (bytes : List ℕ) (ps : List Place)
     → places_in n bytes ≡ ps
