@@ -1,14 +1,13 @@
 -- The pages that edits leave are bags again, of the edited stacks.
-use Rattle.std.proofs.Common.{◌≡◌, ℕ, ◌+◌, ◌≤◌, true, false, List, [], ◌++◌, length, drop, Ok, refl, arith}
+use Rattle.std.proofs.Common.{◌≡◌, ℕ, ◌+◌, ◌≤◌, true, false, List, [], length, drop, Ok, refl, arith}
 use Rattle.std.proofs.lemmas.List.{drop_at}
-use Rattle.std.proofs.lemmas.Bool.{cond-true}
 use Rattle.std.proofs.lemmas.Bool.Decides.{nat_tests}
 use Rattle.page.specs.declared.contents.Stack.{Stack}
 use Rattle.page.specs.Pages.{is_bag, stacks, render, rewritten}
 use Rattle.page.specs.Stacks.{InRange, Lawful, held, added, crafted, removed}
 use Rattle.refusal.specs.Answers.{answer}
 use Rattle.page.specs.Calls.{add_tests, added_page, blank_page, craft_tests, crafted_page, no_room, no_such_amount, no_such_kind, remove_tests, removed_page}
-use Rattle.page.specs.Holdings.{BagAgain, Emptied, Exchanged, Lowered, Raised, count_of, held_in}
+use Rattle.page.specs.Holdings.{BagAgain, Emptied, Exchanged, Lowered, Raised, held_in}
 use Rattle.page.proofs.Amounts.{held-added, held-removed}
 use Rattle.page.proofs.Counting.{length-added, length_removed}
 use Rattle.page.proofs.Rising.{rising_added, rising_removed}

@@ -1,5 +1,5 @@
 -- The eight columns of a place, one by one.
-use Rattle.std.proofs.Common.{◌≡◌, ℕ, true, false, ◌&&◌, eqb, List, [], ◌∷◌, length, get_or, sym, refl, ap, ◌∙◌}
+use Rattle.std.proofs.Common.{◌≡◌, ℕ, true, false, ◌&&◌, List, [], ◌∷◌, length, get_or, refl, ap}
 use Rattle.std.proofs.lemmas.List.FromFn.{fill_by_all}
 use Rattle.decimal.specs.Columns.{blank, numeral, value}
 use Rattle.page.specs.Places.{place_in, contents}

@@ -1,11 +1,11 @@
 -- What is written into a place is read from it again, and a place that holds something is its only text.
-use Rattle.std.proofs.Common.{◌≡◌, ℕ, ◌<◌, true, false, ◌&&◌, eqb, List, ◌++◌, length, take, drop, sym, refl, arith}
+use Rattle.std.proofs.Common.{◌≡◌, ℕ, true, false, eqb, List, length, take, drop, sym, refl, arith}
 use Rattle.std.proofs.lemmas.List.{length-take-le, length-drop, take-append-drop}
 use Rattle.std.proofs.lemmas.Bool.Decides.{nat_tests}
-use Rattle.decimal.specs.Columns.{columns, last_column, blank, numeral, value}
+use Rattle.decimal.specs.Columns.{last_column, blank, numeral, value}
 use Rattle.decimal.proofs.Spelling.{numeral-columns, value-columns, columns-value, value_above, value_below, blank_is_spaces}
 use Rattle.page.specs.declared.contents.Stack.{Stack}
-use Rattle.page.specs.declared.contents.Place.TheVariants.{Empty, Filled, Malformed}
+use Rattle.page.specs.declared.contents.Place.TheVariants.{Empty, Filled}
 use Rattle.page.specs.Stacks.{InRange}
 use Rattle.page.specs.Places.{text, empty_text, place_in}
 

@@ -32,7 +32,9 @@ parted kind above (s ∷ ss) rising =
     0
     (λ n. All (λ t. t.kind < kind) (take n (s ∷ ss)) × All (λ t. kind ≤ t.kind) (drop n (s ∷ ss)))
     (λ is. (All-cons (λ (t : Stack). t.kind < kind) s (take (spot kind ss) ss) (ltb-true _ _ is) rest.0, rest.1))
-    (λ is. (λ k d none. absurd (omega arith), All-cons (λ (t : Stack). kind ≤ t.kind) s ss (ltb-false _ _ is) (none_smaller kind s.kind ss (ltb-false _ _ is) rising.1.1)))
+    (λ is.
+    let later = none_smaller kind s.kind ss (ltb-false _ _ is) rising.1.1 in
+    (λ k d none. absurd (omega arith), All-cons (λ (t : Stack). kind ≤ t.kind) s ss (ltb-false _ _ is) later))
 
 held_total : (kind above : ℕ) (ss : List Stack) → RisingFrom above ss → held kind ss ≡ sum_by (count_of kind) ss
 held_total kind above [] rising = refl

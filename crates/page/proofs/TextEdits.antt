@@ -1,6 +1,6 @@
 -- What overwriting and moving places does to the text of stacks.
 use Rattle.std.proofs.Common.{◌≡◌, ℕ, zero, suc, ◌+◌, ◌-◌, ◌*◌, ◌<◌, ◌≤◌, List, [], ◌∷◌, ◌++◌, length, take, drop, replicate, sym, refl, ap, ◌∙◌, append_assoc, suc-add, zero-add, arith}
-use Rattle.std.proofs.lemmas.List.{append-nil, drop_at, length-append, replicate-append-replicate, take_at}
+use Rattle.std.proofs.lemmas.List.{drop_at, length-append, replicate-append-replicate, take_at}
 use Rattle.page.specs.declared.contents.Stack.{Stack}
 use Rattle.page.specs.Places.{text, empty_text}
 use Rattle.page.specs.Pages.{text_of, render}
@@ -9,16 +9,22 @@ use Rattle.page.proofs.Texts.{length-text_of}
 
 -- the bytes between a head and a tail: as many others written over them, and they themselves
 
-module _ (head old tail page : List ℕ) (start count : ℕ) (is : page ≡ head ++ (old ++ tail)) (at : length head ≡ start) (width : length old ≡ count) where
-  overwritten_at : (new : List ℕ) → length new ≡ count → overwritten page start new ≡ head ++ (new ++ tail)
-  overwritten_at new same =
-      let past : length (head ++ old) ≡ start + length new = length-append head old ∙ omega arith in
-      rw
-      (is, take_at head (old ++ tail) start at, ← append_assoc head old tail, drop_at (head ++ old) tail (start + length new) past)
-      refl
+module _
+    {start count : ℕ}
+    (head old tail page : List ℕ)
+    (is : page ≡ head ++ (old ++ tail))
+    (at : length head ≡ start)
+    (width : length old ≡ count)
+  where
+    overwritten_at : (new : List ℕ) → length new ≡ count → overwritten page start new ≡ head ++ (new ++ tail)
+    overwritten_at new same =
+        let past : length (head ++ old) ≡ start + length new = length-append head old ∙ omega arith in
+        rw
+        (is, take_at head (old ++ tail) start at, ← append_assoc head old tail, drop_at (head ++ old) tail (start + length new) past)
+        refl
 
-  taken_at : take count (drop start page) ≡ old
-  taken_at = rw (is, drop_at head (old ++ tail) start at, take_at old tail count width) refl
+    taken_at : take count (drop start page) ≡ old
+    taken_at = rw (is, drop_at head (old ++ tail) start at, take_at old tail count width) refl
 
 -- the text of places, cut before a place, after its first place, and before its last one
 
@@ -82,7 +88,7 @@ module _ (front : List Stack) (within : length front < 32) (page rest : List ℕ
   unfolding text_of
   replaced_text old new back is =
       let tail = text_of (31 - length front) back ++ rest in
-      overwritten_at head (text old) tail page (1 + 8 * length front) 8 (is ∙ render_from (old ∷ back)) length-head refl (text new) refl
+      overwritten_at head (text old) tail page (is ∙ render_from (old ∷ back)) length-head refl (text new) refl
       ∙ sym (render_from (new ∷ back))
 
   -- the places from one on moved by one place to the right, and a stack put in between
@@ -93,20 +99,21 @@ module _ (front : List Stack) (within : length front < 32) (page rest : List ℕ
   unfolding text_of
   inserted_text new back is =
       let place = length front in
-      let m = 31 - place in
-      let kept = text_of m back in
-      let width = length-text_of m back in
-      let first = first_place m back in
-      let last = last_place m back in
+      let after = 31 - place in
+      let kept = text_of after back in
+      let width = length-text_of after back in
+      let first = first_place after back in
+      let last = last_place after back in
       let whole = is ∙ render_from back in
-      let taken : take (8 * m) (drop (1 + 8 * place) page) ≡ kept =
-      taken_at head kept (last.bytes ++ rest) page (1 + 8 * place) (8 * m) (whole ∙ rw last.split (simp append_assoc)) length-head width in
+      let taken : take (8 * after) (drop (1 + 8 * place) page) ≡ kept =
+      taken_at head kept (last.bytes ++ rest) page (whole ∙ rw last.split (simp append_assoc)) length-head width in
       let further : length (head ++ first.bytes) ≡ 1 + 8 * (place + 1) = omega (arith, length-append head first.bytes, length-head, first.width) in
-      let moved : copied page place (place + 1) m ≡ head ++ (first.bytes ++ (kept ++ rest)) =
+      let split : page ≡ (head ++ first.bytes) ++ (text_of after first.others ++ rest) = whole ∙ rw first.split (simp append_assoc) in
+      let moved : copied page place (place + 1) after ≡ head ++ (first.bytes ++ (kept ++ rest)) =
       rw
       (taken, ← append_assoc head first.bytes (kept ++ rest))
-      (overwritten_at (head ++ first.bytes) (text_of m first.others) rest page (1 + 8 * (place + 1)) (8 * m) (whole ∙ rw first.split (simp append_assoc)) further (length-text_of m first.others) kept width) in
-      overwritten_at head first.bytes (kept ++ rest) (copied page place (place + 1) m) (1 + 8 * place) 8 moved length-head first.width (text new) refl
+      (overwritten_at (head ++ first.bytes) (text_of after first.others) rest page split further (length-text_of after first.others) kept width) in
+      overwritten_at head first.bytes (kept ++ rest) (copied page place (place + 1) after) moved length-head first.width (text new) refl
       ∙ sym (render_from (new ∷ back))
 
   -- the places after one moved by one place to the left, over it, and the last one emptied
@@ -118,24 +125,24 @@ module _ (front : List Stack) (within : length front < 32) (page rest : List ℕ
   unfolding text_of
   closed_text old back few is =
       let place = length front in
-      let m = 31 - place in
-      let kept = text_of m back in
-      let width = length-text_of m back in
-      let last = last_place m (old ∷ back) in
-      let end = last_place m back in
+      let after = 31 - place in
+      let kept = text_of after back in
+      let width = length-text_of after back in
+      let last = last_place after (old ∷ back) in
+      let end = last_place after back in
       let whole = is ∙ render_from (old ∷ back) in
       let further : length (head ++ text old) ≡ 1 + 8 * (place + 1) = omega (arith, length-append head (text old), length-head) in
-      let taken : take (8 * m) (drop (1 + 8 * (place + 1)) page) ≡ kept =
-      taken_at (head ++ text old) kept rest page (1 + 8 * (place + 1)) (8 * m) (whole ∙ sym (append_assoc head (text old) (kept ++ rest))) further width in
-      let split : page ≡ head ++ (text_of m (old ∷ back) ++ (last.bytes ++ rest)) =
-      is ∙ rw (← append_assoc (text_of m (old ∷ back)) last.bytes rest, ← last.split) (render_from (old ∷ back)) in
-      let moved : copied page (place + 1) place m ≡ (head ++ kept) ++ (last.bytes ++ rest) =
+      let taken : take (8 * after) (drop (1 + 8 * (place + 1)) page) ≡ kept =
+      taken_at (head ++ text old) kept rest page (whole ∙ sym (append_assoc head (text old) (kept ++ rest))) further width in
+      let split : page ≡ head ++ (text_of after (old ∷ back) ++ (last.bytes ++ rest)) =
+      is ∙ rw (← append_assoc (text_of after (old ∷ back)) last.bytes rest, ← last.split) (render_from (old ∷ back)) in
+      let moved : copied page (place + 1) place after ≡ (head ++ kept) ++ (last.bytes ++ rest) =
       rw
       (taken, append_assoc)
-      (overwritten_at head (text_of m (old ∷ back)) (last.bytes ++ rest) page (1 + 8 * place) (8 * m) split length-head (length-text_of m (old ∷ back)) kept width) in
+      (overwritten_at head (text_of after (old ∷ back)) (last.bytes ++ rest) page split length-head (length-text_of after (old ∷ back)) kept width) in
       let end_at : length (head ++ kept) ≡ 249 = omega (arith, length-append head kept, length-head, width) in
       let spaces = end.spaces (omega (arith, length-append front (old ∷ back))) in
-      overwritten_at (head ++ kept) last.bytes rest (copied page (place + 1) place m) 249 8 moved end_at last.width empty_text refl
+      overwritten_at (head ++ kept) last.bytes rest (copied page (place + 1) place after) moved end_at last.width empty_text refl
       ∙ sym (render_from back ∙ rw (end.split, spaces) (simp append_assoc))
 
 -- the text of no stacks

@@ -1,13 +1,13 @@
 -- Stacks written to a page are read from it again, and a bag's page is the only text of its stacks.
-use Rattle.std.proofs.Common.{◌≡◌, ℕ, zero, suc, ◌+◌, ◌*◌, ◌<◌, ◌≤◌, true, ◌&&◌, eqb, ltb, leb, List, [], ◌∷◌, ◌++◌, map, length, get_or, take, drop, sym, refl, ap, ◌∙◌, ap₂, arith, take-add}
+use Rattle.std.proofs.Common.{◌≡◌, ℕ, zero, suc, ◌+◌, ◌*◌, ◌<◌, ◌≤◌, true, ltb, List, [], ◌∷◌, ◌++◌, map, length, get_or, take, drop, sym, refl, ap, ◌∙◌, arith, take-add}
 use Rattle.std.specs.List.{range_with_len}
 use Rattle.std.proofs.lemmas.List.{drop-drop, length-append, take-append-drop, take_more}
-use Rattle.std.proofs.lemmas.Bool.{and_parts, and_from, false≢true, le-leb, ltb-true}
+use Rattle.std.proofs.lemmas.Bool.{and_parts, false≢true, le-leb, ltb-true}
 use Rattle.std.proofs.lemmas.Bool.Decides.{nat_tests}
 use Rattle.page.specs.declared.contents.Stack.{Stack}
 use Rattle.page.specs.declared.contents.Place.{Place}
 use Rattle.page.specs.declared.contents.Place.TheVariants.{Empty, Filled, Malformed}
-use Rattle.page.specs.Places.{text, empty_text, place_in}
+use Rattle.page.specs.Places.{place_in}
 use Rattle.page.specs.Pages.{place_at, places, all_empty, in_order, is_bag, stacks_in, stacks, text_of, render, rewritten}
 use Rattle.page.specs.Stacks.{RisingFrom, Lawful}
 use Rattle.page.proofs.PlaceTexts.{place_in-text, filled_text, filled_in_range, empty_text_is}

@@ -1,4 +1,4 @@
-use Rattle.std.proofs.Common.{◌≡◌, ℕ, List, take, refl, arith}
+use Rattle.std.proofs.Common.{ℕ, List, refl, arith}
 use Rattle.page.specs.Calls.{add_tests}
 use Rattle.page.specs.Stacks.{added}
 use Rattle.page.specs.Holdings.{Raised}

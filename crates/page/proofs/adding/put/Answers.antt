@@ -1,11 +1,8 @@
-use Rattle.std.proofs.Common.{◌≡◌, ℕ, ◌+◌, ◌*◌, true, ap, ◌∙◌, arith}
+use Rattle.std.proofs.Common.{◌≡◌, ◌+◌, true, ◌∙◌, arith}
 use Rattle.std.proofs.lemmas.Bool.Decides.{nat_tests}
-use Rattle.page.specs.Layout.{overwritten}
 use Rattle.page.specs.Pages.{is_bag, stacks}
-use Rattle.page.specs.Places.{text}
 use Rattle.page.specs.Stacks.{held}
 use Rattle.page.proofs.BagEdits.{inserted_page, raised_page}
-use Rattle.page.proofs.Fronts.{amounting}
 use Rattle.page.proofs.adding.put.Goals as goal
 
 pub returns-else-is_full-clause-leaves : goal.returns-else-is_full-clause-leaves

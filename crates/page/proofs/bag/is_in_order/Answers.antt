@@ -1,5 +1,5 @@
-use Rattle.std.proofs.Common.{ℕ, List, Some, sym, subst, ◌∙◌, rules, arith}
-use Rattle.page.proofs.Places.{Unread, unread_none, unread_more, unread_spoilt, unread_all}
+use Rattle.std.proofs.Common.{◌∙◌, rules, arith}
+use Rattle.page.proofs.Places.{unread_none, unread_more, unread_spoilt, unread_all}
 use Rattle.page.proofs.bag.is_in_order.Goals as goal
 
 pub loop-columns-init : goal.loop-columns-init

@@ -1,7 +1,5 @@
-use Rattle.std.proofs.Common.{◌≡◌, ◌++◌, drop, sym, refl, subst, arith}
-use Rattle.std.proofs.lemmas.Bool.Decides.{nat_tests}
+use Rattle.std.proofs.Common.{sym, refl, subst}
 use Rattle.page.specs.Holdings.{Emptied}
-use Rattle.page.specs.Calls.{blank_page}
 use Rattle.page.proofs.BagLaws.{blank_empties}
 use Rattle.page.proofs.TextEdits.{render_empty}
 use Rattle.page.proofs.blanking.blank.Goals as goal

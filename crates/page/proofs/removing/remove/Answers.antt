@@ -1,4 +1,4 @@
-use Rattle.std.proofs.Common.{◌≡◌, ℕ, List, take, refl, arith}
+use Rattle.std.proofs.Common.{ℕ, List, refl, arith}
 use Rattle.page.specs.Calls.{remove_tests}
 use Rattle.page.specs.Stacks.{removed}
 use Rattle.page.specs.Holdings.{Lowered}

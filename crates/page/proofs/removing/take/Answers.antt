@@ -1,11 +1,8 @@
-use Rattle.std.proofs.Common.{◌≡◌, ℕ, ◌+◌, ◌-◌, ◌*◌, true, ap, ◌∙◌, arith}
+use Rattle.std.proofs.Common.{◌≡◌, ◌-◌, true, ◌∙◌, arith}
 use Rattle.std.proofs.lemmas.Bool.Decides.{nat_tests}
-use Rattle.page.specs.Layout.{overwritten}
 use Rattle.page.specs.Pages.{is_bag, stacks}
-use Rattle.page.specs.Places.{text}
 use Rattle.page.specs.Stacks.{held}
 use Rattle.page.proofs.BagEdits.{closed_page, lowered_page}
-use Rattle.page.proofs.Fronts.{amounting}
 use Rattle.page.proofs.removing.take.Goals as goal
 
 pub returns-in-Some-clause-leaves : goal.returns-in-Some-clause-leaves

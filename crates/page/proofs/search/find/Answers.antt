@@ -1,10 +1,8 @@
 use Rattle.std.proofs.Common.{◌≡◌, ◌≤◌, true, length, arith}
-use Rattle.std.proofs.lemmas.Result.{err_from_is_err_and}
 use Rattle.std.proofs.lemmas.Bool.Decides.{nat_tests}
-use Rattle.page.specs.Pages.{is_bag, stacks}
+use Rattle.page.specs.Pages.{is_bag}
 use Rattle.page.proofs.FirstBytes.{is_bag_first, stacks_first}
 use Rattle.page.proofs.Spots.{stops_at}
-use Rattle.page.proofs.Texts.{lawful_stacks}
 use Rattle.page.proofs.search.find.Goals as goal
 
 pub returns-in_err-check_kind-clause-answers : goal.returns-in_err-check_kind-clause-answers
