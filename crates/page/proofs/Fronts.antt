@@ -1,5 +1,5 @@
 -- What edits make of stacks, by the kind of the stack at the front.
-use Rattle.std.proofs.Common.{◌≡◌, ℕ, ◌+◌, ◌-◌, ◌<◌, eqb, ltb, List, ◌∷◌, arith}
+use Rattle.std.proofs.Common.{◌≡◌, ℕ, ◌+◌, ◌-◌, ◌<◌, false, eqb, ltb, List, ◌∷◌, arith}
 use Rattle.std.proofs.lemmas.Bool.{cond_both, eqb-true, eqb-false, ltb-true}
 use Rattle.std.proofs.lemmas.Bool.Decides.{nat_tests}
 use Rattle.page.specs.declared.contents.Stack.{Stack}
@@ -17,13 +17,9 @@ module _ (items s : Stack) (ss : List Stack) (P : List Stack → Type 0) where
       → (items.kind < s.kind → P (items ∷ s ∷ ss))
       → P (added items (s ∷ ss))
   added_cases past here before =
-      cond_both
-      (ltb s.kind items.kind)
-      _
-      _
-      P
-      (λ is. past (ltb-true _ _ is))
-      (λ other. cond_both (eqb s.kind items.kind) _ _ P (λ is. here (eqb-true _ _ is)) (λ is. before (grind (arith, nat_tests))))
+      let rest = λ (not_smaller : ltb s.kind items.kind ≡ false).
+      cond_both (eqb s.kind items.kind) _ _ P (λ is. here (eqb-true _ _ is)) (λ is. before (grind (arith, nat_tests))) in
+      cond_both (ltb s.kind items.kind) _ _ P (λ is. past (ltb-true _ _ is)) rest
 
   -- a fact of what a removal leaves, by whether the kind is there and all of it goes
   pub removed_cases :
@@ -32,10 +28,6 @@ module _ (items s : Stack) (ss : List Stack) (P : List Stack → Type 0) where
       → (s.kind ≡ items.kind → (s.amount ≡ items.amount → ⊥) → P (amounting s (s.amount - items.amount) ∷ ss))
       → P (removed items (s ∷ ss))
   removed_cases past whole part =
-      cond_both
-      (eqb s.kind items.kind)
-      _
-      _
-      P
-      (λ is. cond_both (eqb s.amount items.amount) _ _ P (λ all. whole (eqb-true _ _ is) (eqb-true _ _ all)) (λ some. part (eqb-true _ _ is) (eqb-false _ _ some)))
-      (λ other. past (eqb-false _ _ other))
+      let there = λ (same : s.kind ≡ items.kind).
+      cond_both (eqb s.amount items.amount) _ _ P (λ is. whole same (eqb-true _ _ is)) (λ is. part same (eqb-false _ _ is)) in
+      cond_both (eqb s.kind items.kind) _ _ P (λ is. there (eqb-true _ _ is)) (λ is. past (eqb-false _ _ is))
