@@ -7,7 +7,7 @@ ghost use Rattle.page.specs.Calls.{not_bag, short_page};
 ghost use Rattle.page.specs.Pages.{stacks};
 ghost use Rattle.refusal.specs.Answers.{answer, by_number};
 
-use page::{COLUMNS, PLACES, Place, Stack, read, read_place};
+use page::{COLUMNS, PAGE_LENGTH, Place, Stack, read, read_place};
 use refusal::Refusal;
 use std::alloc::{AllocError, Global};
 
@@ -23,6 +23,7 @@ pub fn dump(heap: Global, bytes: &[u8]) -> Result<Vec<u8>, AllocError>
     Ok(lines)
 }
 
+// Refuses what is no bag. The page has such a test of its own, but not for others to call.
 fn check_bag(bytes: &[u8]) -> Result<(), Refusal>
     ensures { by_number result ≡ answer (short_page bytes.now ∷ not_bag bytes.now ∷ []) tt }
 {
@@ -38,9 +39,8 @@ fn write_stacks(lines: &mut Vec<u8>, page: &[u8]) -> Result<(), AllocError>
     requires { 257 ≤ length page.now }
     ensures { OnOk result (lines.new.items ≡ lines.old.items ++ lines_of (stacks page.now)) }
 {
-    for place in 0..PLACES {
-        let start = 1 + COLUMNS * place;
-        let Place::Filled(stack) = read_place(&page[start..start + COLUMNS]) else {
+    for columns in page[1..PAGE_LENGTH].chunks_exact(COLUMNS) {
+        let Place::Filled(stack) = read_place(columns) else {
             break;
         };
         write_line(lines, stack)?;

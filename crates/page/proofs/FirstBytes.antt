@@ -1,6 +1,6 @@
 -- Only the first 257 bytes of a page decide: what a call does to them alone, it does to the whole page.
-use Rattle.std.proofs.Common.{◌≡◌, ℕ, ◌+◌, ◌*◌, leb, ltb, List, ◌++◌, zero, suc, length, take, drop, Result, Ok, Err, sym, refl, ap, subst, arith}
-use Rattle.std.proofs.lemmas.List.{append-nil, drop-take, drop_all, get_or-take, length-take, take-append-drop, take-take}
+use Rattle.std.proofs.Common.{◌≡◌, ℕ, leb, ltb, List, ◌++◌, length, take, drop, Result, Ok, Err, sym, refl, ap, subst, arith}
+use Rattle.std.proofs.lemmas.List.{append-nil, drop-take, drop_all, get_or-take, length-take, take-append-drop}
 use Rattle.std.proofs.lemmas.Bool.Decides.{nat_tests}
 use Rattle.refusal.specs.declared.cases.Refusal.{Refusal}
 use Rattle.refusal.specs.Answers.{Test, answer, by_number, on_ok}
@@ -8,16 +8,8 @@ use Rattle.refusal.proofs.Outcomes.{Claims}
 use Rattle.page.specs.declared.contents.Stack.{Stack}
 use Rattle.page.specs.Pages.{is_bag, places, rewritten, stacks, stacks_in}
 use Rattle.page.specs.Calls.{short_page}
-use Rattle.page.proofs.Texts.{places_in, places_of}
-
-places_in-take : (n : ℕ) (bytes : List ℕ) → places_in n (take (8 * n) bytes) ≡ places_in n bytes
-unfolding places_in
-places_in-take zero bytes = refl
-places_in-take (suc n) bytes =
-    let width : 8 * suc n ≡ 8 + 8 * n = omega arith in
-    rw
-    (width, take-take 8 (8 + 8 * n) bytes (omega arith), drop-take 8 (8 * n) bytes, places_in-take n (drop 8 bytes))
-    refl
+use Rattle.page.proofs.Places.{places_in-take}
+use Rattle.page.proofs.Texts.{places_of}
 
 module _ (page : List ℕ) where
   places_first : places (take 257 page) ≡ places page

@@ -1,9 +1,9 @@
 -- The places of a page as a reader that goes through the page meets them: by their numbers, or chunk by chunk.
-use Rattle.std.proofs.Common.{◌≡◌, ℕ, zero, suc, ◌+◌, ◌-◌, ◌*◌, ◌<◌, ◌≤◌, Bool, true, false, ◌&&◌, eqb, List, [], ◌∷◌, ◌++◌, map, length, get_or, take, drop, Some, None, Option, refl, ap, ◌∙◌, arith}
+use Rattle.std.proofs.Common.{◌≡◌, ℕ, zero, suc, ◌+◌, ◌-◌, ◌*◌, ◌<◌, ◌≤◌, Bool, true, false, ◌&&◌, eqb, List, [], ◌∷◌, ◌++◌, map, length, get_or, take, drop, Some, None, Option, sym, refl, ap, arith}
 use Rattle.std.specs.List.{range_with_len}
 use Rattle.page.specs.declared.contents.Place.{Place}
 use Rattle.std.proofs.lemmas.Bool.{le-leb}
-use Rattle.std.proofs.lemmas.List.{drop_at, length-append, length-drop, take_all, take_at}
+use Rattle.std.proofs.lemmas.List.{drop-take, drop_at, length-append, length-drop, length-take-le, take-take, take_at}
 use Rattle.page.specs.Steps.{kind_at, may_follow}
 use Rattle.page.specs.Places.{place_in}
 use Rattle.page.specs.declared.contents.Place.TheVariants.{Empty, Filled, Malformed}
@@ -39,6 +39,36 @@ pub place_at_part :
 place_at_part page i =
     let width : 1 + 8 * i + 8 - (1 + 8 * i) ≡ 8 = omega arith in rw width refl
 
+pub places_in-take : (n : ℕ) (bytes : List ℕ) → places_in n (take (8 * n) bytes) ≡ places_in n bytes
+unfolding places_in
+places_in-take zero bytes = refl
+places_in-take (suc n) bytes =
+    let width : 8 * suc n ≡ 8 + 8 * n = omega arith in
+    rw
+    (width, take-take 8 (8 + 8 * n) bytes (omega arith), drop-take 8 (8 * n) bytes, places_in-take n (drop 8 bytes))
+    refl
+
+-- the 256 bytes after the tag, as all places
+pub places_in_part : (page : List ℕ) → places_in 32 (take 256 (drop 1 page)) ≡ places page
+places_in_part page = rw (places_in-take 32 (drop 1 page)) (sym (places_of page))
+
+-- the places of some bytes whose first chunk is split off
+pub places_in_chunk :
+    (rest chunk later : List ℕ)
+    → rest ≡ chunk ++ later
+    → length chunk ≡ 8
+    → (n : ℕ)
+    → length rest ≡ 8 * n
+    → (m : ℕ) × (length later ≡ 8 * m) × (places_in n rest ≡ place_in chunk ∷ places_in m later)
+unfolding places_in
+places_in_chunk rest chunk later split eight zero width =
+    absurd (omega (arith, ap length split, length-append chunk later))
+places_in_chunk rest chunk later split eight (suc m) width = (
+  m,
+  omega (arith, ap length split, length-append chunk later),
+  rw (split, take_at chunk later 8 eight, drop_at chunk later 8 eight) refl,
+)
+
 -- whether the places to come are what a bag's reader expects: kinds above one, or nothing more
 abbrev pub meets : Option ℕ → List Place → Bool
 meets (Some above) ps = in_order above ps
@@ -61,39 +91,34 @@ pub record Unread (page rest : List ℕ) (above : Option ℕ) : Type 0 where
   -- the places still to come decide
   pub decides : meets above (places_in count rest) ≡ in_order 0 (places page)
 
-pub unread_none : (page : List ℕ) → length page ≡ 257 → Unread page (take 256 (drop 1 page)) (Some 0)
+pub unread_none : (page : List ℕ) → 257 ≤ length page → Unread page (take 256 (drop 1 page)) (Some 0)
 unread_none page long =
-    let width : length (drop 1 page) ≡ 256 = length-drop 1 page ∙ omega (arith, long) in
-    rw
-    (take_all 256 (drop 1 page) (omega (arith, width)))
-    (record { count = 32; width = width; decides = rw (places_of page) refl })
+    record {
+      count = 32;
+      width = length-take-le 256 (drop 1 page) (omega (arith, length-drop 1 page));
+      decides = ap (in_order 0) (places_in_part page);
+    }
 
 module _ (page rest chunk later : List ℕ) (above : Option ℕ) (split : rest ≡ chunk ++ later) (eight : length chunk ≡ 8) where
   -- what the first place that is still to come decides
   first_decides :
-      (count : ℕ)
-      → length rest ≡ 8 * count
-      → meets above (places_in count rest) ≡ in_order 0 (places page)
+      Unread page rest above
       → (m : ℕ)
       × (length later ≡ 8 * m)
       × ((may_follow above (place_in chunk) && meets (kind_at (place_in chunk)) (places_in m later)) ≡ in_order 0 (places page))
-  unfolding places_in
-  first_decides zero width decides = absurd (omega (arith, ap length split, length-append chunk later))
-  first_decides (suc m) width decides = (
-    m,
-    omega (arith, ap length split, length-append chunk later),
-    rw (split, take_at chunk later 8 eight, drop_at chunk later 8 eight, meets_more above (place_in chunk) (places_in m later)) at decides,
-  )
+  first_decides unread =
+      let first = places_in_chunk rest chunk later split eight unread.count unread.width in
+      (first.0, first.1, rw (first.2, meets_more above (place_in chunk) (places_in first.0 later)) at unread.decides)
 
   -- a place that may follow leaves the later ones to decide
   pub unread_more :
       may_follow above (place_in chunk) ≡ true → Unread page rest above → Unread page later (kind_at (place_in chunk))
   unread_more may unread =
-      let first = first_decides unread.count unread.width unread.decides in
+      let first = first_decides unread in
       record { count = first.0; width = first.1; decides = rw may at first.2 }
 
   pub unread_spoilt : may_follow above (place_in chunk) ≡ false → Unread page rest above → false ≡ in_order 0 (places page)
-  unread_spoilt may_not unread = rw may_not at (first_decides unread.count unread.width unread.decides).2
+  unread_spoilt may_not unread = rw may_not at (first_decides unread).2
 
 -- a page that is read to its end is in order
 pub unread_all :

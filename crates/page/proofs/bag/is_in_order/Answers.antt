@@ -7,7 +7,7 @@ loop-columns-init c =
     let chunks = c.chunks_exact-columns-items.ensures in
     rw
     c.into_iter-columns-iterator.ensures.into_iter_gives
-    (chunks.size, rw chunks.rest (unread_none c.args.page.now c.told-page))
+    (chunks.size, rw chunks.rest (unread_none c.args.page.now (omega (arith, c.told-page))))
 
 pub returns-then-not-may_follow : goal.returns-then-not-may_follow
 returns-then-not-may_follow c =
