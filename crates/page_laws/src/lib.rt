@@ -1,7 +1,7 @@
 // What follows from the rules of the page, on calls that rely on it.
 #![tactic(auto)]
 
-ghost use Rattle.std.specs.Prelude.{◌≡◌, ◌≤◌, length, take, IfOk, codes, Decides};
+ghost use Rattle.std.specs.Prelude.{◌≡◌, IfOk, codes, Decides};
 ghost use Rattle.page.specs.Pages.{stacks};
 ghost use Rattle.page_laws.specs.Comparing.{same_text};
 ghost use Rattle.page_laws.specs.Plays.{Plays, items};
@@ -23,28 +23,25 @@ pub fn same_stacks(one: &[u8], other: &[u8]) -> Result<bool, Refusal>
     compare(one, other)
 }
 
-// Compares the first 257 bytes of two bags.
+// Compares the first 257 bytes of two bags. Both lengths are tested before either page is read, in the order of the numbers.
 fn compare(one: &[u8], other: &[u8]) -> Result<bool, Refusal>
     ensures { by_number result ≡ same_text one.now other.now }
 {
+    let one_text = one.first_chunk::<PAGE_LENGTH>().ok_or(Refusal::ShortPage)?;
+    let other_text = other
+        .first_chunk::<PAGE_LENGTH>()
+        .ok_or(Refusal::ShortPage)?;
     let one_bag = read(one)?;
     let other_bag = read(other)?;
     if one_bag && other_bag {
-        Ok(have_one_text(one, other))
+        Ok(have_one_text(one_text, other_text))
     } else {
         Err(Refusal::NotABag)
     }
 }
 
-// Whether two pages have the same first 257 bytes.
-fn have_one_text(one: &[u8], other: &[u8]) -> bool
-    requires { (257 ≤ length one.now) × (257 ≤ length other.now) }
-    ensures { result ≡ bytes_eq (take 257 one.now) (take 257 other.now) }
-{
-    same_bytes(&one[0..PAGE_LENGTH], &other[0..PAGE_LENGTH])
-}
-
-fn same_bytes(one: &[u8], other: &[u8]) -> bool
+// Whether two pages are the same bytes: a function of its own, so that an edit of it is refused where it stands.
+fn have_one_text(one: &[u8; PAGE_LENGTH], other: &[u8; PAGE_LENGTH]) -> bool
     ensures { result ≡ bytes_eq one.now other.now }
 {
     one == other
