@@ -11,7 +11,7 @@ mod cases;
 pub use cases::Refusal;
 
 impl Refusal {
-    // The number by which scripts know the refusal.
+    // The number by which scripts know the refusal; they ask for it by name, so it is no `From`.
     pub fn number(self) -> u32
         ensures { result ≡ number_of self }
     {
@@ -24,8 +24,10 @@ impl Refusal {
         ensures { result ≡ refused_line (number_of self) }
     {
         let [hundreds, tens, ones] = columns::<3>(self.number());
-        [
-            b'r', b'e', b'f', b'u', b's', b'e', b'd', hundreds, tens, ones, b'\n',
-        ]
+        let mut line = *b"refused   \n";
+        line[7] = hundreds;
+        line[8] = tens;
+        line[9] = ones;
+        line
     }
 }
