@@ -22,15 +22,15 @@ short_page page = (nat_lt (length page) 257, number ShortPage)
 
 -- a number is outside 1 to the largest
 abbrev pub outside : ℕ → ℕ → Refusal → Test
-outside largest n refusal = (not (nat_le 1 n && nat_le n largest), number refusal)
+outside n largest refusal = (not (nat_le 1 n && nat_le n largest), number refusal)
 
 -- a kind is outside 1 to 999
 abbrev pub no_such_kind : ℕ → Test
-no_such_kind kind = outside 999 kind NoSuchKind
+no_such_kind kind = outside kind 999 NoSuchKind
 
 -- an amount is outside 1 to 99,999
 abbrev pub no_such_amount : ℕ → Test
-no_such_amount amount = outside 99999 amount NoSuchAmount
+no_such_amount amount = outside amount 99999 NoSuchAmount
 
 -- a craft names one kind twice
 abbrev pub same_kind : Stack → Stack → Test

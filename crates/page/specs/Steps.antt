@@ -1,9 +1,9 @@
--- Going through the places of a page one by one: what a place decides.
+-- The small decisions of the calls: by a place, by an amount, by a trial.
 use Rattle.std.specs.Prelude.{ℕ, ◌-◌, Bool, true, false, cond, List, Some, None, Option, ◌==◌, nat_lt}
 use Rattle.page.specs.declared.contents.Place.{Place}
 use Rattle.page.specs.declared.contents.Place.TheVariants.{Empty, Filled, Malformed}
 
--- whether a place may stand where kinds above one may, or where nothing more may
+-- whether a place may come after one whose stack has that kind, or after an empty one: a stack only with a larger kind
 abbrev pub may_follow : Option ℕ → Place → Bool
 may_follow above Empty = true
 may_follow None (Filled s) = false
@@ -26,7 +26,7 @@ stops_with kind Malformed = Some 0
 abbrev pub left_of : ℕ → ℕ → Option ℕ
 left_of amount less = cond (amount == less) None (Some (amount - less))
 
--- the page that a trial leaves: what was saved is put back, unless nothing is kept to put back
+-- the page that a trial leaves: the one that it saved, or where nothing is saved any more, the page as it is
 abbrev pub put_back : Option (List ℕ) → List ℕ → List ℕ
 put_back (Some saved) page = saved
 put_back None page = page

@@ -23,7 +23,7 @@ pub fn add(page: &mut [u8], items: Stack) -> Result<(), Refusal>
     put(bytes, items)
 }
 
-// Adds items to a page that has no other bytes.
+// Adds items to a page of exactly 257 bytes.
 pub(crate) fn put(page: &mut [u8; PAGE_LENGTH], items: Stack) -> Result<(), Refusal>
     ensures answers { by_number result ≡ answer (add_tests page.old items) tt }
     ensures leaves { page.new ≡ on_ok result (added_page page.old items) page.old }

@@ -9,6 +9,7 @@ ghost use Rattle.refusal.specs.Answers.{by_number};
 use crate::codec::read_place;
 use crate::contents::Place;
 use crate::format::{COLUMNS, PAGE_LENGTH, TAG};
+use crate::layout::start_of;
 use refusal::Refusal;
 
 // A page that is known to be a bag.
@@ -45,7 +46,7 @@ impl<'a> Bag<'a> {
         ensures { result ≡ place_at self.entry.page.now place }
     {
         let Bag { page } = self;
-        let start = 1 + COLUMNS * place;
+        let start = start_of(place);
         read_place(&page[start..start + COLUMNS])
     }
 }
@@ -54,6 +55,7 @@ impl<'a> Bag<'a> {
 fn is_in_order(page: &[u8; PAGE_LENGTH]) -> bool
     ensures { result ≡ in_order 0 (places page.now) }
 {
+    // The kind of the stack before, 0 before the first; none after an empty place.
     let mut above = Some(0);
     for columns in page[1..].chunks_exact(COLUMNS) {
         let place = read_place(columns);
@@ -65,7 +67,8 @@ fn is_in_order(page: &[u8; PAGE_LENGTH]) -> bool
     true
 }
 
-// Whether a place may stand where kinds above one may, or where nothing more may.
+// Whether a place may come after one whose stack has that kind, or after an empty one: a stack has to have a larger kind, and
+// none may come after an empty place.
 fn may_follow(above: Option<u32>, place: Place) -> bool
     ensures { result ≡ may_follow above place }
 {

@@ -1,4 +1,4 @@
-// The tests that calls share, each with its refusal. A call makes them in the order of their numbers.
+// The tests of kinds and amounts, each with its refusal. A call makes them in the order of their numbers.
 ghost use Rattle.std.specs.Prelude.{◌≡◌, [], ◌∷◌};
 ghost use Rattle.page.specs.Calls.{no_such_amount, no_such_kind, outside};
 ghost use Rattle.refusal.specs.Answers.{answer, by_number};
@@ -21,7 +21,7 @@ pub(crate) fn check_amount(amount: u32) -> Result<(), Refusal>
 
 // Refuses a number that is not one of 1 to the largest.
 fn check_range(number: u32, largest: u32, refusal: Refusal) -> Result<(), Refusal>
-    ensures { by_number result ≡ answer (outside largest number refusal ∷ []) tt }
+    ensures { by_number result ≡ answer (outside number largest refusal ∷ []) tt }
 {
     if (1..=largest).contains(&number) {
         Ok(())

@@ -5,7 +5,8 @@ ghost use Rattle.page.specs.Places.{place_in, text};
 use crate::contents::{Place, Stack};
 use decimal::{columns, is_blank, is_numeral, value};
 
-// What a place holds: three columns of a kind and five of an amount, or eight spaces.
+// What a place holds: three columns of a kind and five of an amount, or eight spaces. The eight named bytes and their guards are
+// the project's form. `read_place` and `columns` are no `From`: their names say what the text is.
 #[tactic(auto, using(crate::proofs::Columns::reads_empty, crate::proofs::Columns::reads_filled, crate::proofs::Columns::reads_malformed))]
 pub fn read_place(columns: &[u8]) -> Place
     ensures { result ≡ place_in columns.now }

@@ -5,7 +5,7 @@ pub struct Stack {
     pub amount: u32,
 }
 
-// What the eight columns of a place hold.
+// What the eight columns of a place hold: three cases with names of their own, which `Result<Option<Stack>, _>` would not have.
 #[derive(Clone, Copy, Debug, PartialEq, Eq)]
 pub enum Place {
     Empty,

@@ -22,7 +22,9 @@ pub fn craft(page: &mut [u8], out: Stack, into: Stack) -> Result<(), Refusal>
     exchange(bytes, out, into)
 }
 
-// Crafts on a page that has no other bytes: the removal is a trial, put back unless the adding is good too.
+// Crafts on a page of exactly 257 bytes: the removal is a trial, put back unless the adding is good too. `take` and `put` make all
+// their tests again, so that neither asks anything of its caller; a type for items in range would be made of one stack after the
+// other, but both kinds are tested before both amounts.
 fn exchange(page: &mut [u8; PAGE_LENGTH], out: Stack, into: Stack) -> Result<(), Refusal>
     ensures answers { by_number result ≡ answer (craft_tests page.old out into) tt }
     ensures leaves { page.new ≡ on_ok result (crafted_page page.old out into) page.old }

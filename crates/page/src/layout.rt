@@ -1,5 +1,5 @@
-// The places of a page rewritten and moved, each eight columns wide. That a place is one of the 32 stands in their contracts
-// and in no type: a search also answers 32, past a full bag's last place, so a type would be made by the same fact at each call.
+// The places of a page rewritten and moved, each eight columns wide. That a place is one of the 32 stands in contracts and is no
+// type: a search also answers 32, past a full bag's last place, and whoever made the type would have to show the same.
 ghost use Rattle.std.specs.Prelude.{◌≡◌, ◌+◌, ◌-◌, ◌*◌, ◌<◌, ◌≤◌};
 ghost use Rattle.page.specs.declared.format.TheConstants.{COLUMNS, PAGE_LENGTH, PLACES};
 ghost use Rattle.page.specs.Layout.{copied, overwritten, with_closed, with_inserted};
@@ -8,12 +8,20 @@ ghost use Rattle.page.specs.Places.{empty_text, text};
 use crate::contents::Stack;
 use crate::format::{COLUMNS, PAGE_LENGTH, PLACES};
 
+// Where a place starts, and after the last one where the page ends.
+pub(crate) fn start_of(place: usize) -> usize
+    requires { place ≤ PLACES }
+    ensures { result ≡ 1 + COLUMNS * place }
+{
+    1 + COLUMNS * place
+}
+
 // Writes a stack into a place.
 pub(crate) fn write_stack(page: &mut [u8; PAGE_LENGTH], place: usize, stack: Stack)
     requires { place < PLACES }
     ensures { page.new ≡ overwritten page.old (1 + COLUMNS * place) (text stack) }
 {
-    let start = 1 + COLUMNS * place;
+    let start = start_of(place);
     page[start..start + COLUMNS].copy_from_slice(&stack.columns());
 }
 
@@ -23,8 +31,7 @@ fn copy_places(page: &mut [u8; PAGE_LENGTH], from: usize, to: usize, count: usiz
     requires target { to + count ≤ PLACES }
     ensures { page.new ≡ copied page.old from to count }
 {
-    let start = 1 + COLUMNS * from;
-    page.copy_within(start..start + COLUMNS * count, 1 + COLUMNS * to);
+    page.copy_within(start_of(from)..start_of(from + count), start_of(to));
 }
 
 // Empties the last place.

@@ -1,4 +1,5 @@
-// Removing items from a bag.
+// Removing items from a bag. It is like adding in shape alone: one function for both would take the tests, the edit and the law as
+// parameters.
 ghost use Rattle.std.specs.Prelude.{◌≡◌, [], ◌∷◌, OnOk};
 ghost use Rattle.page.specs.Calls.{held_too_few, remove_tests, removed_page};
 ghost use Rattle.page.specs.Holdings.{Lowered};
@@ -22,7 +23,7 @@ pub fn remove(page: &mut [u8], items: Stack) -> Result<(), Refusal>
     take(bytes, items)
 }
 
-// Removes items from a page that has no other bytes.
+// Removes items from a page of exactly 257 bytes.
 pub(crate) fn take(page: &mut [u8; PAGE_LENGTH], items: Stack) -> Result<(), Refusal>
     ensures answers { by_number result ≡ answer (remove_tests page.old items) tt }
     ensures leaves { page.new ≡ on_ok result (removed_page page.old items) page.old }
@@ -41,11 +42,9 @@ pub(crate) fn take(page: &mut [u8; PAGE_LENGTH], items: Stack) -> Result<(), Ref
 fn lowered(held: u32, amount: u32) -> Result<Option<u32>, Refusal>
     ensures { by_number result ≡ answer (held_too_few held amount ∷ []) (left_of held amount) }
 {
-    if held < amount {
-        return Err(Refusal::NotEnough);
+    match held.checked_sub(amount) {
+        None => Err(Refusal::NotEnough),
+        Some(0) => Ok(None),
+        Some(rest) => Ok(Some(rest)),
     }
-    if held == amount {
-        return Ok(None);
-    }
-    Ok(Some(held - amount))
 }

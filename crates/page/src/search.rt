@@ -14,7 +14,8 @@ use crate::contents::Place;
 use crate::format::PLACES;
 use refusal::Refusal;
 
-// Answers the place where the search for a kind stops, and how many items of it the bag holds.
+// Answers the place where the search for a kind stops, and how many items of it the bag holds. The amount is no `Option`: no
+// stack has 0 items, so 0 says that the kind is absent, and scripts add and compare what they get.
 pub fn find(page: &[u8], kind: u32) -> Result<(usize, u32), Refusal>
     ensures answers { by_number result ≡ find_answer page.now kind }
     ensures stops { IfOk result (λ found. StopsAt kind (stacks page.now) found.0 found.1) }
@@ -26,7 +27,9 @@ pub fn find(page: &[u8], kind: u32) -> Result<(usize, u32), Refusal>
 }
 
 impl Bag<'_> {
-    // The search goes on past smaller kinds, to the end of the places. It counts the places since it answers one.
+    // What `find` answers, the pair that add and remove take apart. The search goes on past smaller kinds, to the end of the places;
+    // a loop that yields its place by `break` is the project's form for it. The stacks lie in a module's text, so there is no list
+    // that a library could search.
     pub(crate) fn find(self, kind: u32) -> (usize, u32)
         ensures place { result.0 ≡ spot kind (stacks self.entry.page.now) }
         ensures amount { result.1 ≡ held kind (stacks self.entry.page.now) }
