@@ -45,7 +45,7 @@ pub trait Kind {
         }
     }
 
-    // Each of the four by itself.
+    // Each of the four as a call, told by the geometry; code over any kind may as well name the constant.
     fn sectors() -> usize
         ensures { result ≡ geometry.sectors }
     {

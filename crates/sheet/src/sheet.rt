@@ -17,7 +17,7 @@ pub trait Sheet<K: Kind> {
         ensures answers { result ≡ fit self.now }
         ensures shape { Shaped K.Kind.geometry (fit self.now) (sectors self.now) };
 
-    // Answers a byte of a sector, FFH where there is none.
+    // Answers a byte of a sector. It is no `Option`: where there is none the part drives FFH.
     fn read(&self, sector: usize, byte: usize) -> u8
         ensures { result ≡ byte_at (sectors self.now) sector byte };
 

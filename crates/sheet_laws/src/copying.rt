@@ -1,10 +1,11 @@
 // Copying a sector between any two sheets of one kind of part.
-ghost use Rattle.std.specs.Prelude.{◌≡◌, ◌<◌, [], length, nat_lt, slice_index_or};
+ghost use Rattle.std.specs.Prelude.{◌≡◌, ℕ, ◌<◌, length, nat_lt, slice_index};
+ghost use Rattle.sheet.specs.Sectors.{byte_at};
 ghost use Rattle.sheet_laws.specs.Copying.{can_copy, copied};
 
 use sheet::{Kind, LARGEST_SECTOR, Sheet};
 
-// Copies a sector of one sheet to a sector of another, and says whether that was done.
+// Copies a sector of one sheet to a sector of another, and says whether that was done, as `program_sector` does.
 pub fn copy_sector<K: Kind, S: Sheet<K>, T: Sheet<K>>(
     source: &S,
     from: usize,
@@ -18,7 +19,7 @@ pub fn copy_sector<K: Kind, S: Sheet<K>, T: Sheet<K>>(
     if !has_sector::<K, S>(source, from) || !has_sector::<K, T>(target, to) {
         return false;
     }
-    // No heap on a handheld, and no array is as long as a type's constant says: a buffer for the largest sector, cut to size.
+    // A buffer for the largest sector, cut to size: a handheld has no heap, and an array cannot have `K::Z` for its length.
     let mut buffer = [0xFF; LARGEST_SECTOR];
     let bytes = &mut buffer[..K::Z];
     read_sector::<K, S>(source, from, bytes);
@@ -33,11 +34,10 @@ fn has_sector<K: Kind, S: Sheet<K>>(sheet: &S, sector: usize) -> bool
     sheet.is_fit() && sector < K::N
 }
 
-// Reads a sector that is there into a buffer of its length.
+// Fills a buffer with the bytes of a sector, from the first on.
 fn read_sector<K: Kind, S: Sheet<K>>(sheet: &S, sector: usize, bytes: &mut [u8])
-    requires there { sector < length (S.Sheet.sectors sheet.now) }
-    requires whole { length bytes.old ≡ K.Kind.geometry.size }
-    ensures { bytes.new ≡ slice_index_or (S.Sheet.sectors sheet.now) sector [] }
+    ensures long { length bytes.new ≡ length bytes.old }
+    ensures reads { (byte : ℕ) → byte < length bytes.old → slice_index bytes.new byte ≡ byte_at (S.Sheet.sectors sheet.now) sector byte }
 {
     for (byte, target) in bytes.iter_mut().enumerate() {
         *target = sheet.read(sector, byte);

@@ -5,7 +5,7 @@ ghost use Rattle.sheet_laws.specs.Programming.{ProgramReads};
 
 use sheet::{Kind, Sheet};
 
-// Programs a sector, and says whether that was done.
+// Programs a sector, and says whether that was done. It is no `Result`: which refusal it would be is for the layers above.
 pub fn program_sector<K: Kind, S: Sheet<K>>(sheet: &mut S, sector: usize, bytes: &[u8]) -> bool
     ensures answers { result ≡ can_program K.Kind.geometry (S.Sheet.fit sheet.old) sector bytes.now }
     ensures stays { S.Sheet.fit sheet.new ≡ S.Sheet.fit sheet.old }
