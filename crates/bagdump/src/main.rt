@@ -4,7 +4,7 @@
 use listing::dump;
 use std::io::{Read, Write};
 
-// The most bytes that are read: the largest sector of any module.
+// The most bytes that are read: the largest sector of any module. The program stands on no sheet, so the number is written here.
 const INPUT_LIMIT: u64 = 536;
 
 fn main(rt: HostRuntime) -> anyhow::Result<()> {
