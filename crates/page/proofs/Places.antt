@@ -33,12 +33,6 @@ pub is_bag_long :
 unfolding is_bag
 is_bag_long page long = rw (le-leb 257 (length page) long)
 
--- the part of the page that the code hands to the place reader
-pub place_at_part :
-    (page : List ℕ) (i : ℕ) → place_in (take (1 + 8 * i + 8 - (1 + 8 * i)) (drop (1 + 8 * i) page)) ≡ place_at page i
-place_at_part page i =
-    let width : 1 + 8 * i + 8 - (1 + 8 * i) ≡ 8 = omega arith in rw width refl
-
 pub places_in-take : (n : ℕ) (bytes : List ℕ) → places_in n (take (8 * n) bytes) ≡ places_in n bytes
 unfolding places_in
 places_in-take zero bytes = refl

@@ -1,5 +1,5 @@
 -- How a call answers whose tests are made in parts, and what a call claims.
-use Rattle.std.proofs.Common.{◌≡◌, ℕ, true, false, List, [], ◌∷◌, ◌++◌, Ok, Err, Result, refl}
+use Rattle.std.proofs.Common.{◌≡◌, ℕ, true, false, List, [], ◌∷◌, ◌++◌, Err, Result}
 use Rattle.std.specs.Result.{OnOk}
 use Rattle.refusal.specs.declared.cases.Refusal.{Refusal}
 use Rattle.refusal.specs.Answers.{Test, answer, by_number, on_ok}
@@ -12,15 +12,6 @@ pub refused_early :
 refused_early [] later value n refused = cc
 refused_early ((true, m) ∷ first) later value n refused = cc
 refused_early ((false, m) ∷ first) later value n refused = refused_early first later value n refused
-
--- where the first tests pass, the later ones answer
-pub passed_early :
-    {T : Type 0} (first later : List Test) (value : T)
-    → Ok (tt {0}) ≡ answer first (tt {0})
-    → answer (first ++ later) value ≡ answer later value
-passed_early [] later value passed = refl
-passed_early ((true, m) ∷ first) later value passed = cc
-passed_early ((false, m) ∷ first) later value passed = passed_early first later value passed
 
 -- what a call claims: its answer, what it leaves, and what holds where it was good
 abbrev pub Claims : {T U : Type 0} → Result T Refusal → Result T ℕ → U → U → U → Type 0 → Type 0

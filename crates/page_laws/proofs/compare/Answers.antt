@@ -21,9 +21,3 @@ returns-then-other_bag c =
     let long = one.enough in
     let other_long = other.enough in
     grind (arith, nat_tests)
-
-pub returns-else-one_bag : goal.returns-else-one_bag
-returns-else-one_bag c =
-    let long : 257 ≤ length c.args.one.now = grind arith in
-    let other_long : 257 ≤ length c.args.other.now = grind arith in
-    grind (arith, nat_tests)
