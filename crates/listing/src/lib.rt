@@ -3,6 +3,7 @@
 
 ghost use Rattle.std.specs.Prelude.{◌≡◌, ◌≤◌, [], ◌∷◌, ◌++◌, length, IfOk, OnOk};
 ghost use Rattle.listing.specs.Lines.{dumped, line, lines as lines_of};
+ghost use Rattle.page.specs.declared.format.TheConstants.{PAGE_LENGTH};
 ghost use Rattle.page.specs.Calls.{not_bag, short_page};
 ghost use Rattle.page.specs.Pages.{stacks};
 ghost use Rattle.refusal.specs.Answers.{answer, by_number};
@@ -34,9 +35,9 @@ fn check_bag(bytes: &[u8]) -> Result<(), Refusal>
     }
 }
 
-// Writes a line for each stack of a page, up to the first place that is not filled.
+// Writes a line for each stack of a page, up to the first place that is not filled. Its one caller has tested the length.
 fn write_stacks(lines: &mut Vec<u8>, page: &[u8]) -> Result<(), AllocError>
-    requires { 257 ≤ length page.now }
+    requires { PAGE_LENGTH ≤ length page.now }
     ensures { OnOk result (lines.new.items ≡ lines.old.items ++ lines_of (stacks page.now)) }
 {
     for columns in page[1..PAGE_LENGTH].chunks_exact(COLUMNS) {

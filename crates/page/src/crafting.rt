@@ -37,7 +37,7 @@ fn exchange(page: &mut [u8; PAGE_LENGTH], out: Stack, into: Stack) -> Result<(),
     Ok(())
 }
 
-// Two stacks that are both in range, and of two kinds.
+// Two stacks that are both in range, and of two kinds. They are no type of their own: craft is the one call that takes two.
 fn check_recipe(out: Stack, into: Stack) -> Result<(), Refusal>
     ensures { by_number result ≡ answer (recipe_tests out into) tt }
 {

@@ -15,7 +15,7 @@ use crate::format::PLACES;
 use refusal::Refusal;
 
 // Answers the place where the search for a kind stops, and how many items of it the bag holds. The amount is no `Option`: no
-// stack has 0 items, so 0 says that the kind is absent, and scripts add and compare what they get.
+// stack has 0 items, so 0 says that the kind is absent, and scripts add and compare what they get. The pair is the project's form for it.
 pub fn find(page: &[u8], kind: u32) -> Result<(usize, u32), Refusal>
     ensures answers { by_number result ≡ find_answer page.now kind }
     ensures stops { IfOk result (λ found. StopsAt kind (stacks page.now) found.0 found.1) }

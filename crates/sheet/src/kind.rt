@@ -45,7 +45,8 @@ pub trait Kind {
         }
     }
 
-    // Each of the four as a call, told by the geometry; code over any kind may as well name the constant.
+    // Each of the four as a call. They and `numbers` are public, so they stay beside the constants; they tell the numbers by the
+    // geometry, and code over any kind may as well name the constant.
     fn sectors() -> usize
         ensures { result ≡ geometry.sectors }
     {

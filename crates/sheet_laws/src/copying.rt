@@ -5,7 +5,8 @@ ghost use Rattle.sheet_laws.specs.Copying.{can_copy, copied};
 
 use sheet::{Kind, LARGEST_SECTOR, Sheet};
 
-// Copies a sector of one sheet to a sector of another, and says whether that was done, as `program_sector` does.
+// Copies a sector of one sheet to a sector of another, and says whether that was done. Like `program_sector` it answers no
+// `Result`: which refusal it would be is for the layers above.
 pub fn copy_sector<K: Kind, S: Sheet<K>, T: Sheet<K>>(
     source: &S,
     from: usize,
@@ -28,7 +29,7 @@ pub fn copy_sector<K: Kind, S: Sheet<K>, T: Sheet<K>>(
 }
 
 // Whether a sheet has such a sector.
-fn has_sector<K: Kind, S: Sheet<K>>(sheet: &S, sector: usize) -> bool
+pub(crate) fn has_sector<K: Kind, S: Sheet<K>>(sheet: &S, sector: usize) -> bool
     ensures { result ≡ nat_lt sector (length (S.Sheet.sectors sheet.now)) }
 {
     sheet.is_fit() && sector < K::N

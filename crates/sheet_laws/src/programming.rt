@@ -3,6 +3,7 @@ ghost use Rattle.std.specs.Prelude.{◌≡◌};
 ghost use Rattle.sheet.specs.Sectors.{can_program, programmed};
 ghost use Rattle.sheet_laws.specs.Programming.{ProgramReads};
 
+use crate::copying::has_sector;
 use sheet::{Kind, Sheet};
 
 // Programs a sector, and says whether that was done. It is no `Result`: which refusal it would be is for the layers above.
@@ -12,7 +13,7 @@ pub fn program_sector<K: Kind, S: Sheet<K>>(sheet: &mut S, sector: usize, bytes:
     ensures leaves { S.Sheet.sectors sheet.new ≡ programmed K.Kind.geometry (S.Sheet.sectors sheet.old) sector bytes.now }
     ensures reads { ProgramReads result (S.Sheet.sectors sheet.old) (S.Sheet.sectors sheet.new) sector bytes.now }
 {
-    let done = sheet.is_fit() && sector < K::N && bytes.len() == K::Z;
+    let done = has_sector::<K, S>(sheet, sector) && bytes.len() == K::Z;
     sheet.program(sector, bytes);
     done
 }
