@@ -8,7 +8,7 @@ use Rattle.sheet.specs.Sectors.{programmed}
 use Rattle.sheet.specs.Flat.{flat_fit, flat_sector, flat_sectors, flat_programmed}
 use Rattle.sheet.proofs.Overwrites.{part_overwritten, part_kept, widths_apart}
 use Rattle.sheet.proofs.Listed.{Rewrites, listed-programmed}
-use Rattle.sheet.specs.Shapes.{sector_within}
+use Rattle.sheet.proofs.FlatSectors.{sector_within}
 
 -- bytes that are written where a sector lies are that sector's, and every other sector is as before
 pub sectors_written :
@@ -22,6 +22,11 @@ sectors_written g memory s bytes fits below whole =
       part_overwritten memory bytes (s * g.size) g.size room whole,
       λ t _ other. part_kept memory bytes (s * g.size) g.size (t * g.size) g.size room whole (widths_apart t s g.size other),
     )
+
+-- a program leaves the memory as long as it was
+pub length-programmed :
+    (g : Geometry) (memory : List ℕ) (s : ℕ) (bytes : List ℕ) → length (flat_programmed g memory s bytes) ≡ length memory
+length-programmed g memory s bytes = grind (arith, nat_tests, length-paste, sector_within)
 
 -- the memory that a program leaves has the sectors that a program leaves
 pub flat_programs :
@@ -38,6 +43,6 @@ flat_programs g memory after s bytes leaves =
     (flat_sector g.size after)
     s
     bytes
-    (grind (arith, nat_tests, length-paste, sector_within))
+    (grind (arith, length-programmed))
     (λ can. grind (arith, nat_tests))
     (λ cannot. grind (arith, nat_tests))

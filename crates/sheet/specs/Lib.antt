@@ -1,4 +1,3 @@
 pub mod Kinds
 pub mod Sectors
 pub mod Flat
-pub mod Shapes

@@ -2,7 +2,6 @@
 ghost use Rattle.std.specs.Prelude.{◌≡◌, ◌≤◌, IfSome, length};
 ghost use Rattle.sheet.specs.Flat.{HoldsSectors, flat_fit, flat_programmed, flat_sectors, flat_span};
 ghost use Rattle.sheet.specs.Sectors.{programmed};
-ghost use Rattle.sheet.specs.Shapes.{flat_shaped};
 
 use crate::kind::Kind;
 use crate::sheet::Sheet;
@@ -36,7 +35,7 @@ impl<'a> Flat<'a> {
     fn fits<K: Kind>(&self) -> bool
         ensures { result ≡ flat_fit K.Kind.geometry self.now.memory.now }
     {
-        self.memory.len() == K::N * K::Z
+        self.memory.len() == K::sectors() * K::sector_size()
     }
 
     // Where a sector lies in the memory, if it is there.
@@ -44,11 +43,11 @@ impl<'a> Flat<'a> {
         ensures span { result ≡ flat_span K.Kind.geometry self.now.memory.now sector }
         ensures within { IfSome result (λ span. span.end ≤ length self.now.memory.now) }
     {
-        if !self.fits::<K>() || sector >= K::N {
+        if !self.fits::<K>() || sector >= K::sectors() {
             return None;
         }
-        let start = sector * K::Z;
-        Some(start..start + K::Z)
+        let start = sector * K::sector_size();
+        Some(start..start + K::sector_size())
     }
 }
 
@@ -57,9 +56,7 @@ impl<'a, K: Kind> Sheet<K> for Flat<'a> {
 
     ghost sectors = { λ s. flat_sectors K.Kind.geometry s.memory.now };
 
-    ghost shaped = { λ s. flat_shaped K.Kind.geometry s.memory.now };
-
-    #[tactic(auto, using(crate::specs::Shapes::flat_shaped))]
+    #[tactic(auto, using(crate::proofs::FlatSectors::flat_shaped))]
     fn is_fit(&self) -> bool {
         self.fits::<K>()
     }
@@ -83,7 +80,7 @@ impl<'a, K: Kind> Sheet<K> for Flat<'a> {
         let Some(span) = self.span::<K>(sector) else {
             return;
         };
-        if bytes.len() == K::Z {
+        if bytes.len() == K::sector_size() {
             self.memory[span].copy_from_slice(bytes);
         }
     }

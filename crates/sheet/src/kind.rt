@@ -1,5 +1,5 @@
 // What a kind of part is: four numbers within bounds.
-ghost use Rattle.std.specs.Prelude.{◌≡◌, ℕ, Bool};
+ghost use Rattle.std.specs.Prelude.{◌≡◌};
 ghost use Rattle.sheet.specs.declared.geometry.Geometry.{Geometry};
 ghost use Rattle.sheet.specs.Kinds.{InBounds};
 
@@ -8,72 +8,50 @@ use crate::geometry::Geometry;
 // The most bytes that a sector of any kind has.
 pub const LARGEST_SECTOR: usize = 536;
 
-// A kind of part. The ghost member beside each constant is that constant in clauses and proofs.
+// A kind of part. A constant has no value in the proof of code that is written over any kind; such code asks for the
+// numbers by the functions, whose contracts tie them to `geometry`.
 pub trait Kind {
     // How many sectors the array has.
     const N: usize;
-
-    ghost N: { ℕ };
-
     // How many bytes a sector has.
     const Z: usize;
-
-    ghost Z: { ℕ };
-
     // What a byte address on the wire is taken modulo.
     const MODULUS: usize;
-
-    ghost MODULUS: { ℕ };
-
     // Whether the SRAM is held while a sector is programmed.
     const HELD: bool;
 
-    ghost HELD: { Bool };
-
-    // The four numbers together, as contracts have them.
+    // The four numbers as contracts have them.
     ghost geometry: { Geometry };
 
     // The four constants together.
     fn numbers() -> Geometry
-        ensures { result ≡ geometry }
-    {
-        Geometry {
-            sectors: Self::N,
-            size: Self::Z,
-            modulus: Self::MODULUS,
-            held: Self::HELD,
-        }
-    }
+        ensures { result ≡ geometry };
 
-    // Each of the four as a call. They and `numbers` are public, so they stay beside the constants; they tell the numbers by the
-    // geometry, and code over any kind may as well name the constant.
+    // Each of the four by itself.
     fn sectors() -> usize
         ensures { result ≡ geometry.sectors }
     {
-        Self::N
+        Self::numbers().sectors
     }
 
     fn sector_size() -> usize
         ensures { result ≡ geometry.size }
     {
-        Self::Z
+        Self::numbers().size
     }
 
     fn byte_modulus() -> usize
         ensures { result ≡ geometry.modulus }
     {
-        Self::MODULUS
+        Self::numbers().modulus
     }
 
     fn holds_sram() -> bool
         ensures { result ≡ geometry.held }
     {
-        Self::HELD
+        Self::numbers().held
     }
 
-    // The constants are the numbers of the geometry.
-    ghost same_numbers: { geometry ≡ record { sectors = N; size = Z; modulus = MODULUS; held = HELD } };
-
-    // What any kind must show: each proves it of its own numbers.
+    // What any kind must show.
     ghost bounds: { InBounds geometry };
 }

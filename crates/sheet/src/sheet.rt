@@ -25,7 +25,4 @@ pub trait Sheet<K: Kind> {
     fn program(&mut self, sector: usize, bytes: &[u8])
         ensures stays { fit self.new ≡ fit self.old }
         ensures leaves { sectors self.new ≡ programmed K.Kind.geometry (sectors self.old) sector bytes.now };
-
-    // What any sheet must show: it has the sectors of its kind with all their bytes, or none where it is unfit.
-    ghost shaped: { (s : Self) → Shaped K.Kind.geometry (fit s) (sectors s) };
 }

@@ -1,6 +1,6 @@
 // Copying a sector between any two sheets of one kind of part.
 ghost use Rattle.std.specs.Prelude.{◌≡◌, ℕ, ◌<◌, length, nat_lt, slice_index};
-ghost use Rattle.sheet.specs.Sectors.{byte_at};
+ghost use Rattle.sheet.specs.Sectors.{Shaped, byte_at};
 ghost use Rattle.sheet_laws.specs.Copying.{can_copy, copied};
 
 use sheet::{Kind, LARGEST_SECTOR, Sheet};
@@ -20,9 +20,9 @@ pub fn copy_sector<K: Kind, S: Sheet<K>, T: Sheet<K>>(
     if !has_sector::<K, S>(source, from) || !has_sector::<K, T>(target, to) {
         return false;
     }
-    // A buffer for the largest sector, cut to size: a handheld has no heap, and an array cannot have `K::Z` for its length.
+    // A buffer for the largest sector, cut to size: a handheld has no heap, and an array cannot have a kind's number for its length.
     let mut buffer = [0xFF; LARGEST_SECTOR];
-    let bytes = &mut buffer[..K::Z];
+    let bytes = &mut buffer[..K::sector_size()];
     read_sector::<K, S>(source, from, bytes);
     target.program(to, bytes);
     true
@@ -30,9 +30,10 @@ pub fn copy_sector<K: Kind, S: Sheet<K>, T: Sheet<K>>(
 
 // Whether a sheet has such a sector.
 pub(crate) fn has_sector<K: Kind, S: Sheet<K>>(sheet: &S, sector: usize) -> bool
-    ensures { result ≡ nat_lt sector (length (S.Sheet.sectors sheet.now)) }
+    ensures answers { result ≡ nat_lt sector (length (S.Sheet.sectors sheet.now)) }
+    ensures shape { Shaped K.Kind.geometry (S.Sheet.fit sheet.now) (S.Sheet.sectors sheet.now) }
 {
-    sheet.is_fit() && sector < K::N
+    sheet.is_fit() && sector < K::sectors()
 }
 
 // Fills a buffer with the bytes of a sector, from the first on.

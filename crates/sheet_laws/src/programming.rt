@@ -13,7 +13,7 @@ pub fn program_sector<K: Kind, S: Sheet<K>>(sheet: &mut S, sector: usize, bytes:
     ensures leaves { S.Sheet.sectors sheet.new ≡ programmed K.Kind.geometry (S.Sheet.sectors sheet.old) sector bytes.now }
     ensures reads { ProgramReads result (S.Sheet.sectors sheet.old) (S.Sheet.sectors sheet.new) sector bytes.now }
 {
-    let done = has_sector::<K, S>(sheet, sector) && bytes.len() == K::Z;
+    let done = has_sector::<K, S>(sheet, sector) && bytes.len() == K::sector_size();
     sheet.program(sector, bytes);
     done
 }

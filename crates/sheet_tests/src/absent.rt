@@ -1,6 +1,5 @@
 // The smallest sheet that there can be: a socket with no module in it.
 ghost use Rattle.std.specs.Prelude.{false, []};
-ghost use Rattle.std.proofs.Common.{rules};
 
 use sheet::{Kind, Sheet};
 
@@ -12,8 +11,6 @@ impl<K: Kind> Sheet<K> for Absent {
     ghost fit = { λ _. false };
 
     ghost sectors = { λ _. [] };
-
-    ghost shaped = { Prim.search rules };
 
     fn is_fit(&self) -> bool {
         false
