@@ -20,7 +20,7 @@ pub fn copy_sector<K: Kind, S: Sheet<K>, T: Sheet<K>>(
     if !has_sector::<K, S>(source, from) || !has_sector::<K, T>(target, to) {
         return false;
     }
-    // A buffer for the largest sector, cut to size: a handheld has no heap, and an array cannot have a kind's number for its length.
+    // A buffer for the largest sector, cut to size: a handheld has no heap, and an array cannot be as long as its kind says.
     let mut buffer = [0xFF; LARGEST_SECTOR];
     let bytes = &mut buffer[..K::sector_size()];
     read_sector::<K, S>(source, from, bytes);
