@@ -1,5 +1,5 @@
 // Making a page the blank page.
-ghost use Rattle.std.specs.Prelude.{◌≡◌, ◌-◌, ◌∷◌, replicate, OnOk};
+ghost use Rattle.std.specs.Prelude.{◌≡◌, ◌-◌, ◌∷◌, replicate, slice_set, OnOk};
 ghost use Rattle.page.specs.declared.format.TheConstants.{PAGE_LENGTH, TAG};
 ghost use Rattle.page.specs.Calls.{blank_page, blank_tests};
 ghost use Rattle.page.specs.Holdings.{Emptied};
@@ -23,6 +23,13 @@ pub fn blank(page: &mut [u8]) -> Result<(), Refusal>
 fn clear(page: &mut [u8; PAGE_LENGTH])
     ensures { page.new ≡ TAG ∷ replicate (PAGE_LENGTH - 1) 32 }
 {
-    *page = [b' '; PAGE_LENGTH];
+    write_tag(page);
+    page[1..].fill(b' ');
+}
+
+// Writes the tag alone: a function of its own, so that an edit of it is refused where it stands.
+fn write_tag(page: &mut [u8; PAGE_LENGTH])
+    ensures { page.new ≡ slice_set page.old 0 TAG }
+{
     page[0] = TAG;
 }
