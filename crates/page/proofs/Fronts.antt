@@ -1,9 +1,9 @@
 -- What edits make of stacks, by the kind of the stack at the front.
-use Rattle.std.proofs.Common.{◌≡◌, ℕ, ◌+◌, ◌-◌, ◌<◌, false, eqb, ltb, List, ◌∷◌, arith}
+use Rattle.std.proofs.Common.{◌≡◌, ℕ, suc, ◌+◌, ◌-◌, ◌<◌, false, eqb, ltb, List, ◌∷◌, arith}
 use Rattle.std.proofs.lemmas.Bool.{cond_both, eqb-true, eqb-false, ltb-true}
 use Rattle.std.proofs.lemmas.Bool.Decides.{nat_tests}
 use Rattle.page.specs.declared.contents.Stack.{Stack}
-use Rattle.page.specs.Stacks.{added, removed}
+use Rattle.page.specs.Stacks.{added, removed, spot}
 
 -- the same stack with another amount
 abbrev pub amounting : Stack → ℕ → Stack
@@ -31,3 +31,7 @@ module _ (items s : Stack) (ss : List Stack) (P : List Stack → Type 0) where
       let there = λ (same : s.kind ≡ items.kind).
       cond_both (eqb s.amount items.amount) _ _ P (λ is. whole same (eqb-true _ _ is)) (λ is. part same (eqb-false _ _ is)) in
       cond_both (eqb s.kind items.kind) _ _ P (λ is. there (eqb-true _ _ is)) (λ is. past (eqb-false _ _ is))
+
+-- a search goes past a stack of a smaller kind
+pub spot_past : (kind : ℕ) (s : Stack) (ss : List Stack) → s.kind < kind → spot kind (s ∷ ss) ≡ suc (spot kind ss)
+spot_past kind s ss smaller = grind (arith, nat_tests)

@@ -21,7 +21,7 @@ place_in-text s range =
 
 -- a place that is known to hold something, by its text
 
-record Reads (bytes : List ℕ) (s : Stack) : Type 0 where
+pub record Reads (bytes : List ℕ) (s : Stack) : Type 0 where
   width : length bytes ≡ 8
   kind_reads : numeral (take 3 bytes) ≡ true
   amount_reads : numeral (drop 3 bytes) ≡ true

@@ -5,7 +5,7 @@ use Rattle.page.specs.declared.contents.Stack.{Stack}
 use Rattle.page.specs.Stacks.{InRange, RisingFrom, held, added, removed}
 use Rattle.page.proofs.Fronts.{added_cases, removed_cases}
 
-rising_from_below : (low high : ℕ) (ss : List Stack) → low ≤ high → RisingFrom high ss → RisingFrom low ss
+pub rising_from_below : (low high : ℕ) (ss : List Stack) → low ≤ high → RisingFrom high ss → RisingFrom low ss
 rising_from_below low high [] below rising = tt
 rising_from_below low high (s ∷ ss) below rising = (omega arith, rising.1)
 

@@ -26,7 +26,7 @@ pub record Searched (page : List ℕ) (kind place : ℕ) : Type 0 where
   pub finds : search_from kind place (places_from page place) ≡ (spot kind (stacks page), held kind (stacks page))
 
 -- a kind below all those to come is absent
-held_below : (kind above : ℕ) (ps : List Place) → kind ≤ above → in_order above ps ≡ true → held kind (stacks_in ps) ≡ 0
+pub held_below : (kind above : ℕ) (ps : List Place) → kind ≤ above → in_order above ps ≡ true → held kind (stacks_in ps) ≡ 0
 held_below kind above [] below ordered = refl
 held_below kind above (Empty ∷ ps) below ordered = refl
 held_below kind above (Filled s ∷ ps) below ordered =

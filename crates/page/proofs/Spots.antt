@@ -1,5 +1,5 @@
 -- The place where a search stops parts the smaller kinds from the others, and the amount is that of the whole bag.
-use Rattle.std.proofs.Common.{◌≡◌, ℕ, true, ◌<◌, ◌≤◌, ltb, suc, List, [], ◌∷◌, take, sum_by, refl, arith}
+use Rattle.std.proofs.Common.{◌≡◌, ℕ, ◌<◌, ◌≤◌, ltb, suc, List, [], ◌∷◌, take, sum_by, refl, arith}
 use Rattle.std.specs.List.{All}
 use Rattle.std.proofs.lemmas.List.Elements.{All-cons, All-nil}
 use Rattle.std.proofs.lemmas.List.Sums.{sum_by-cons}
@@ -7,10 +7,8 @@ use Rattle.std.proofs.lemmas.Bool.{cond_both, ltb-true, ltb-false}
 use Rattle.std.proofs.lemmas.Bool.Decides.{nat_tests}
 use Rattle.page.specs.declared.contents.Stack.{Stack}
 use Rattle.page.specs.Holdings.{StopsAt, count_of}
-use Rattle.page.specs.Pages.{is_bag, stacks}
 use Rattle.page.specs.Stacks.{RisingFrom, held, spot}
 use Rattle.page.proofs.Rising.{held_absent}
-use Rattle.page.proofs.Texts.{lawful_stacks}
 
 none_smaller : (kind above : ℕ) (ss : List Stack) → kind ≤ above → RisingFrom above ss → All (λ s. kind ≤ s.kind) ss
 none_smaller kind above [] low rising = All-nil (λ (s : Stack). kind ≤ s.kind)
@@ -44,11 +42,11 @@ rising_stops kind above (s ∷ ss) rising =
     let after = All-cons (λ (s : Stack). kind ≤ s.kind) s ss (ltb-false _ _ is) later in
     record { before = All-nil (λ (s : Stack). s.kind < kind); after = after; within = omega arith; total = total })
 
--- the spot and the amount held of a kind are what find says of a bag's stacks
+-- the spot and the amount held of a kind are what find says of stacks whose kinds rise
 pub stops_at :
-    (page : List ℕ) (kind place amount : ℕ)
-    → is_bag page ≡ true
-    → place ≡ spot kind (stacks page)
-    → amount ≡ held kind (stacks page)
-    → StopsAt kind (stacks page) place amount
-stops_at page kind place amount bag at is = rw (at, is) (rising_stops kind 0 (stacks page) (lawful_stacks page bag).1)
+    (kind : ℕ) (ss : List Stack) (place amount : ℕ)
+    → RisingFrom 0 ss
+    → place ≡ spot kind ss
+    → amount ≡ held kind ss
+    → StopsAt kind ss place amount
+stops_at kind ss place amount rising at is = rw (at, is) (rising_stops kind 0 ss rising)

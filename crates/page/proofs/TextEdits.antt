@@ -29,7 +29,7 @@ module _
 -- the text of places, cut before a place, after its first place, and before its last one
 
 -- the text of some stacks and others after them
-text_of-append :
+pub text_of-append :
     (xs ys : List Stack) (m : ℕ) → text_of (length xs + m) (xs ++ ys) ≡ text_of (length xs) xs ++ text_of m ys
 unfolding text_of
 text_of-append [] ys m = rw zero-add refl

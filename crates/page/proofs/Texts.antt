@@ -30,13 +30,13 @@ places_of page = places_in_at page 0 32
 
 -- what is written is read again
 
-empty_read : (n : ℕ) (rest : List ℕ) → all_empty (places_in n (text_of n [] ++ rest)) ≡ true
+pub empty_read : (n : ℕ) (rest : List ℕ) → all_empty (places_in n (text_of n [] ++ rest)) ≡ true
 unfolding places_in text_of
 empty_read zero rest = refl
 empty_read (suc n) rest = empty_read n rest
 
 -- the text of stacks is in order, and holds them
-stacks_read :
+pub stacks_read :
     (n above : ℕ) (ss : List Stack) (rest : List ℕ)
     → length ss ≤ n
     → RisingFrom above ss
@@ -55,7 +55,7 @@ eight_more : (n : ℕ) (bytes : List ℕ) → take (8 * suc n) bytes ≡ take 8 
 eight_more n bytes = let width : 8 * suc n ≡ 8 + 8 * n = omega arith in rw width (take-add 8 (8 * n) bytes)
 
 -- places that are all empty have the text of no stacks
-empty_only :
+pub empty_only :
     (n : ℕ) (bytes : List ℕ) (ps : List Place) → places_in n bytes ≡ ps → all_empty ps ≡ true → take (8 * n) bytes ≡ text_of n []
 unfolding places_in text_of
 empty_only zero bytes ps is holds = refl
@@ -66,13 +66,13 @@ empty_only (suc n) bytes (Empty ∷ ps) is holds =
 empty_only (suc n) bytes (Filled s ∷ ps) is holds = cc
 empty_only (suc n) bytes (Malformed ∷ ps) is holds = cc
 
-record OnlyText (n above : ℕ) (bytes : List ℕ) (ss : List Stack) : Type 0 where
+pub record OnlyText (n above : ℕ) (bytes : List ℕ) (ss : List Stack) : Type 0 where
   pub is : take (8 * n) bytes ≡ text_of n ss
   pub few : length ss ≤ n
   pub rising : RisingFrom above ss
 
 -- places that are in order have the text of their stacks alone
-stacks_only :
+pub stacks_only :
     (n above : ℕ) (bytes : List ℕ) (ps : List Place)
     → places_in n bytes ≡ ps
     → in_order above ps ≡ true

@@ -1,8 +1,9 @@
 use Rattle.std.proofs.Common.{◌≡◌, ◌≤◌, true, length, arith}
 use Rattle.std.proofs.lemmas.Bool.Decides.{nat_tests}
-use Rattle.page.specs.Pages.{is_bag}
+use Rattle.page.specs.Pages.{is_bag, stacks}
 use Rattle.page.proofs.FirstBytes.{is_bag_first, stacks_first}
 use Rattle.page.proofs.Spots.{stops_at}
+use Rattle.page.proofs.Texts.{lawful_stacks}
 use Rattle.page.proofs.search.find.Goals as goal
 
 pub returns-in_err-check_kind-clause-answers : goal.returns-in_err-check_kind-clause-answers
@@ -20,4 +21,12 @@ pub returns-clause-stops : goal.returns-clause-stops
 returns-clause-stops c =
     let page = c.args.page.now in
     let bag : is_bag page ≡ true = grind (arith, nat_tests, is_bag_first) in
-    stops_at page c.args.kind c.find.result.0 c.find.result.1 bag (grind (arith, stacks_first)) (grind (arith, stacks_first))
+    let rising = (lawful_stacks page bag).1 in
+    stops_at
+    c.args.kind
+    (stacks page)
+    c.find.result.0
+    c.find.result.1
+    rising
+    (grind (arith, stacks_first))
+    (grind (arith, stacks_first))
