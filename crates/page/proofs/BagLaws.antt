@@ -1,6 +1,6 @@
 -- The pages that edits leave are bags again, of the edited stacks.
-use Rattle.std.proofs.Common.{◌≡◌, ℕ, ◌+◌, ◌≤◌, true, false, List, [], length, drop, Ok, refl, arith}
-use Rattle.std.proofs.lemmas.List.{drop_at}
+use Rattle.std.proofs.Common.{◌≡◌, ℕ, ◌+◌, ◌≤◌, true, false, List, [], ◌++◌, length, take, drop, Ok, refl, ◌∙◌, arith}
+use Rattle.std.proofs.lemmas.List.{drop_at, take-append-drop}
 use Rattle.std.proofs.lemmas.Bool.Decides.{nat_tests}
 use Rattle.page.specs.declared.contents.Stack.{Stack}
 use Rattle.page.specs.Pages.{is_bag, stacks, render, rewritten}
@@ -35,23 +35,93 @@ in_range items kind amount = (
   (grind (arith, nat_tests), grind (arith, nat_tests)),
 )
 
+-- a page rewritten with other stacks, of any kinds
+
+-- it has the bytes after the page that it had
+pub rewritten_rest : (page : List ℕ) (ss : List Stack) → drop 257 (rewritten page ss) ≡ drop 257 page
+rewritten_rest page ss = drop_at (render ss) (drop 257 page) 257 (length-render ss)
+
+-- of two rewritings the second stands
+pub rewritten_again : (page : List ℕ) (ss new : List Stack) → rewritten (rewritten page ss) new ≡ rewritten page new
+rewritten_again page ss new = rw (rewritten_rest page ss) refl
+
+-- its first bytes put back, it is as it was
+pub put_back : (page : List ℕ) (ss : List Stack) → take 257 page ++ drop 257 (rewritten page ss) ≡ page
+put_back page ss = rw (rewritten_rest page ss) (take-append-drop 257 page)
+
 -- a page rewritten with lawful stacks
 
 module _ (page : List ℕ) (ss : List Stack) (lawful : Lawful ss) where
-  pub bag_again : BagAgain page (rewritten page ss)
-  bag_again =
-      record {
-        bag = is_bag-render ss (drop 257 page) lawful;
-        kept = drop_at (render ss) (drop 257 page) 257 (length-render ss);
-      }
+  pub rewritten_bag : is_bag (rewritten page ss) ≡ true
+  rewritten_bag = is_bag-render ss (drop 257 page) lawful
 
-  held_in-rewritten : (kind : ℕ) → held_in kind (rewritten page ss) ≡ held kind ss
-  held_in-rewritten kind = rw (bag_again.bag, stacks-render ss (drop 257 page) lawful) refl
+  pub rewritten-stacks : stacks (rewritten page ss) ≡ ss
+  rewritten-stacks = stacks-render ss (drop 257 page) lawful
+
+  pub bag_again : BagAgain page (rewritten page ss)
+  bag_again = record { bag = rewritten_bag; kept = rewritten_rest page ss }
+
+  pub held_in-rewritten : (kind : ℕ) → held_in kind (rewritten page ss) ≡ held kind ss
+  held_in-rewritten kind = rw (rewritten_bag, rewritten-stacks) refl
+
+-- a bag's page after a removal
+
+module _ (page : List ℕ) (bag : is_bag page ≡ true) (items : Stack) (enough : items.amount ≤ held items.kind (stacks page)) where
+  lawful_after : Lawful (removed items (stacks page))
+  lawful_after = lawful_removed items (stacks page) enough (lawful_stacks page bag)
+
+  module _ (left : List ℕ) (is : left ≡ removed_page page items) where
+    pub removed_bag : is_bag left ≡ true
+    removed_bag = rw is (rewritten_bag page (removed items (stacks page)) lawful_after)
+
+    pub removed-stacks : stacks left ≡ removed items (stacks page)
+    removed-stacks = rw is (rewritten-stacks page (removed items (stacks page)) lawful_after)
+
+    pub removed_put_back : take 257 page ++ drop 257 left ≡ page
+    removed_put_back = rw is (put_back page (removed items (stacks page)))
+
+    -- and after an adding to that
+    pub crafted_page_is : (into : Stack) (done : List ℕ) → done ≡ added_page left into → done ≡ crafted_page page items into
+    crafted_page_is into done done_is = done_is ∙ rw (removed-stacks, is, rewritten_rest page (removed items (stacks page))) refl
 
 pub blank_empties : (page : List ℕ) → Emptied page (blank_page page)
 blank_empties page =
     let lawful : Lawful [] = (omega arith, tt) in
     record { again = bag_again page [] lawful; holds = held_in-rewritten page [] lawful }
+
+-- what removing and crafting make of what a bag holds
+
+module _ (page : List ℕ) (bag : is_bag page ≡ true) where
+  pub remove_lowers :
+      (items : Stack) → items.amount ≤ held items.kind (stacks page) → Lowered page (removed_page page items) items
+  remove_lowers items enough =
+      let lawful = lawful_stacks page bag in
+      let after = lawful_removed items (stacks page) enough lawful in
+      record {
+        again = bag_again page (removed items (stacks page)) after;
+        holds = λ kind.
+            rw
+            (held_in-rewritten page (removed items (stacks page)) after kind, bag)
+            (held-removed kind items 0 (stacks page) lawful.1 enough);
+      }
+
+  pub craft_exchanges :
+      (out into : Stack)
+      → InRange into
+      → out.amount ≤ held out.kind (stacks page)
+      → (no_room into (removed out (stacks page))).0 ≡ false
+      → Exchanged page (crafted_page page out into) out into
+  craft_exchanges out into range enough room =
+      let lawful = lawful_stacks page bag in
+      let between = lawful_removed out (stacks page) enough lawful in
+      let after = lawful_added into (removed out (stacks page)) range room between in
+      record {
+        again = bag_again page (crafted out into (stacks page)) after;
+        holds = λ kind.
+            let more = held-added kind into 0 (removed out (stacks page)) between.1 in
+            let fewer = held-removed kind out 0 (stacks page) lawful.1 enough in
+            rw (held_in-rewritten page (crafted out into (stacks page)) after kind, bag) (omega arith);
+      }
 
 -- what a good call makes of what a page holds: that its tests pass says all that is needed
 
@@ -70,33 +140,12 @@ module _ (page : List ℕ) where
             (held-added kind items 0 (stacks page) lawful.1);
       }
 
-  pub remove_lowers : (items : Stack) → Ok (tt {0}) ≡ answer (remove_tests page items) tt → Lowered page (removed_page page items) items
-  remove_lowers items good =
-      let bag : is_bag page ≡ true = grind (arith, nat_tests) in
-      let enough : items.amount ≤ held items.kind (stacks page) = grind (arith, nat_tests) in
-      let lawful = lawful_stacks page bag in
-      let after = lawful_removed items (stacks page) enough lawful in
-      record {
-        again = bag_again page (removed items (stacks page)) after;
-        holds = λ kind.
-            rw
-            (held_in-rewritten page (removed items (stacks page)) after kind, bag)
-            (held-removed kind items 0 (stacks page) lawful.1 enough);
-      }
+  pub good_remove_lowers :
+      (items : Stack) → Ok (tt {0}) ≡ answer (remove_tests page items) tt → Lowered page (removed_page page items) items
+  good_remove_lowers items good = remove_lowers page (grind (arith, nat_tests)) items (grind (arith, nat_tests))
 
-  pub craft_exchanges :
+  pub good_craft_exchanges :
       (out into : Stack) → Ok (tt {0}) ≡ answer (craft_tests page out into) tt → Exchanged page (crafted_page page out into) out into
-  craft_exchanges out into good =
-      let bag : is_bag page ≡ true = grind (arith, nat_tests) in
+  good_craft_exchanges out into good =
       let range = in_range into (grind (arith, nat_tests)) (grind (arith, nat_tests)) in
-      let enough : out.amount ≤ held out.kind (stacks page) = grind (arith, nat_tests) in
-      let lawful = lawful_stacks page bag in
-      let between = lawful_removed out (stacks page) enough lawful in
-      let after = lawful_added into (removed out (stacks page)) range (grind (arith, nat_tests)) between in
-      record {
-        again = bag_again page (crafted out into (stacks page)) after;
-        holds = λ kind.
-            let more = held-added kind into 0 (removed out (stacks page)) between.1 in
-            let fewer = held-removed kind out 0 (stacks page) lawful.1 enough in
-            rw (held_in-rewritten page (crafted out into (stacks page)) after kind, bag) (omega arith);
-      }
+      craft_exchanges page (grind (arith, nat_tests)) out into range (grind (arith, nat_tests)) (grind (arith, nat_tests))

@@ -1,9 +1,10 @@
 // Adding items to a bag.
-ghost use Rattle.std.specs.Prelude.{◌≡◌, ◌+◌, ◌≤◌, [], ◌∷◌, length, nat_le, OnOk};
+ghost use Rattle.std.specs.Prelude.{◌≡◌, ◌+◌, ◌≤◌, true, [], ◌∷◌, length, nat_le, OnOk};
 ghost use Rattle.page.specs.declared.format.TheConstants.{PLACES};
-ghost use Rattle.page.specs.Calls.{add_tests, added_page, stack_too_large};
+ghost use Rattle.page.specs.Calls.{add_tests, added_page, no_room, stack_too_large};
 ghost use Rattle.page.specs.Holdings.{Raised};
-ghost use Rattle.page.specs.Pages.{stacks};
+ghost use Rattle.page.specs.Pages.{is_bag, stacks};
+ghost use Rattle.page.specs.Stacks.{InRange};
 ghost use Rattle.refusal.specs.Answers.{answer, by_number, on_ok};
 
 use crate::bag::Bag;
@@ -24,12 +25,24 @@ pub fn add(page: &mut [u8], items: Stack) -> Result<(), Refusal>
 }
 
 // Adds items to a page of exactly 257 bytes.
-pub(crate) fn put(page: &mut [u8; PAGE_LENGTH], items: Stack) -> Result<(), Refusal>
+fn put(page: &mut [u8; PAGE_LENGTH], items: Stack) -> Result<(), Refusal>
     ensures answers { by_number result ≡ answer (add_tests page.old items) tt }
     ensures leaves { page.new ≡ on_ok result (added_page page.old items) page.old }
 {
     check_items(items)?;
-    let bag = Bag::on(page).ok_or(Refusal::NotABag)?;
+    Bag::on(page).ok_or(Refusal::NotABag)?;
+    raise(page, items)
+}
+
+// Adds items that are in range to a page that is a bag. It tests neither, so that a craft reads its places once: what a removal
+// leaves is a bag again.
+pub(crate) fn raise(page: &mut [u8; PAGE_LENGTH], items: Stack) -> Result<(), Refusal>
+    requires bag { is_bag page.old ≡ true }
+    requires range { InRange items }
+    ensures answers { by_number result ≡ answer (no_room items (stacks page.old) ∷ []) tt }
+    ensures leaves { page.new ≡ on_ok result (added_page page.old items) page.old }
+{
+    let bag = Bag::known(page);
     let (place, held) = bag.find(items.kind);
     if held == 0 {
         if bag.is_full() {

@@ -40,6 +40,14 @@ impl<'a> Bag<'a> {
         }
     }
 
+    // The bag on a page that is known to be one: its places need not be read again.
+    pub(crate) fn known(page: &'a [u8; PAGE_LENGTH]) -> Bag<'a>
+        requires { is_bag page.now ≡ true }
+        ensures { result.page.now ≡ page.now }
+    {
+        Bag { page }
+    }
+
     // What a place of the bag holds.
     pub(crate) fn place_at(self, place: usize) -> Place
         requires { place < PLACES }

@@ -4,11 +4,12 @@ ghost use Rattle.page.specs.Calls.{craft_tests, crafted_page, recipe_tests};
 ghost use Rattle.page.specs.Holdings.{Exchanged};
 ghost use Rattle.refusal.specs.Answers.{answer, by_number, on_ok};
 
-use crate::adding::put;
+use crate::adding::raise;
+use crate::bag::Bag;
 use crate::checks::{check_amount, check_kind};
 use crate::contents::Stack;
 use crate::format::PAGE_LENGTH;
-use crate::removing::take;
+use crate::removing::lower;
 use crate::trial::Trial;
 use refusal::Refusal;
 
@@ -22,17 +23,18 @@ pub fn craft(page: &mut [u8], out: Stack, into: Stack) -> Result<(), Refusal>
     exchange(bytes, out, into)
 }
 
-// Crafts on a page of exactly 257 bytes: the removal is a trial, put back unless the adding is good too. `take` and `put` make all
-// their tests again, so that neither asks anything of its caller; a type for items in range would be made of one stack after the
-// other, but both kinds are tested before both amounts.
+// Crafts on a page of exactly 257 bytes: the removal is a trial, put back unless the adding is good too. What the removal leaves is
+// a bag again, so all places are read once. Items in range are no type: it would be made of one stack after the other, but both
+// kinds are tested before both amounts.
 fn exchange(page: &mut [u8; PAGE_LENGTH], out: Stack, into: Stack) -> Result<(), Refusal>
     ensures answers { by_number result ≡ answer (craft_tests page.old out into) tt }
     ensures leaves { page.new ≡ on_ok result (crafted_page page.old out into) page.old }
 {
     check_recipe(out, into)?;
+    Bag::on(page).ok_or(Refusal::NotABag)?;
     let mut trial = Trial::begin(page);
-    take(trial.page, out)?;
-    put(trial.page, into)?;
+    lower(trial.page, out)?;
+    raise(trial.page, into)?;
     trial.keep();
     Ok(())
 }

@@ -2,7 +2,7 @@ use Rattle.std.proofs.Common.{ℕ, List, refl, arith}
 use Rattle.page.specs.Calls.{remove_tests}
 use Rattle.page.specs.Stacks.{removed}
 use Rattle.page.specs.Holdings.{Lowered}
-use Rattle.page.proofs.BagLaws.{remove_lowers}
+use Rattle.page.proofs.BagLaws.{good_remove_lowers}
 use Rattle.page.proofs.FirstBytes.{claims_first, is_bag_first, short_page_first, stacks_first}
 use Rattle.page.proofs.removing.remove.Goals as goal
 
@@ -16,7 +16,7 @@ returns c =
     (removed items)
     (λ (left : List ℕ). Lowered page left items)
     (rw (short_page_first page, is_bag_first page, stacks_first page) refl)
-    (remove_lowers page items)
+    (good_remove_lowers page items)
     c.in_ok-bytes.bytes.now
     (grind arith)
     c.take.result
