@@ -13,7 +13,7 @@ raise-requires-clause-bag c =
     let same = c.begin-trial.ensures.lends in
     let good = rw same at c.in_ok-lower.ensures.answers in
     let left = rw same at c.in_ok-lower.ensures.leaves in
-    craft_leaves_bag page c.args.out c.args.into bag c.in_ok-check_recipe.ensures good _ left
+    craft_leaves_bag page c.args.out c.args.into c.in_ok-check_recipe.ensures bag good _ left
 
 pub returns-in_err-raise-clause-answers : goal.returns-in_err-raise-clause-answers
 returns-in_err-raise-clause-answers c =
@@ -26,7 +26,7 @@ returns-in_err-raise-clause-answers c =
     let left = rw same at c.in_ok-lower.ensures.leaves in
     rw
     (refused.1, refused.2)
-    (craft_after_removal page c.args.out c.args.into bag c.in_ok-check_recipe.ensures good _ left _ c.in_err-raise.ensures.answers)
+    (craft_after_removal page c.args.out c.args.into c.in_ok-check_recipe.ensures bag good _ left _ c.in_err-raise.ensures.answers)
 
 pub returns : goal.returns
 returns c =
@@ -41,8 +41,8 @@ returns c =
     let kept : c.drop-trial-2.new.self.0 ≡ crafted_page page out into =
     rw
     (c.drop-trial-2.ensures, c.keep.ensures.kept, c.keep.ensures.lends)
-    (crafted_after_removal page out into bag recipe good _ left _ c.in_ok-raise.ensures.leaves) in
+    (crafted_after_removal page out into recipe bag good _ left _ c.in_ok-raise.ensures.leaves) in
     record {
-      answers = craft_after_removal page out into bag recipe good _ left _ c.in_ok-raise.ensures.answers;
+      answers = craft_after_removal page out into recipe bag good _ left _ c.in_ok-raise.ensures.answers;
       leaves = search (rules, kept);
     }
