@@ -29,7 +29,8 @@ lawful_added items ss range room lawful =
     let within : length (added items ss) ≤ 32 = grind (arith, nat_tests) in
     (within, rising_added items range 0 ss range.0.0 below lawful.1)
 
-in_range : (items : Stack) → (no_such_kind items.kind).0 ≡ false → (no_such_amount items.amount).0 ≡ false → InRange items
+-- items that pass the tests of their kind and their amount are in range
+pub in_range : (items : Stack) → (no_such_kind items.kind).0 ≡ false → (no_such_amount items.amount).0 ≡ false → InRange items
 in_range items kind amount = (
   (grind (arith, nat_tests), grind (arith, nat_tests)),
   (grind (arith, nat_tests), grind (arith, nat_tests)),
@@ -52,6 +53,7 @@ put_back page ss = rw (rewritten_rest page ss) (take-append-drop 257 page)
 -- a page rewritten with lawful stacks
 
 module _ (page : List ℕ) (ss : List Stack) (lawful : Lawful ss) where
+  -- it is a bag, of those stacks
   pub rewritten_bag : is_bag (rewritten page ss) ≡ true
   rewritten_bag = is_bag-render ss (drop 257 page) lawful
 
@@ -71,12 +73,14 @@ module _ (page : List ℕ) (bag : is_bag page ≡ true) (items : Stack) (enough 
   lawful_after = lawful_removed items (stacks page) enough (lawful_stacks page bag)
 
   module _ (left : List ℕ) (is : left ≡ removed_page page items) where
+    -- it is a bag, of the stacks that are left
     pub removed_bag : is_bag left ≡ true
     removed_bag = rw is (rewritten_bag page (removed items (stacks page)) lawful_after)
 
     pub removed-stacks : stacks left ≡ removed items (stacks page)
     removed-stacks = rw is (rewritten-stacks page (removed items (stacks page)) lawful_after)
 
+    -- its first bytes put back, it is as it was
     pub removed_put_back : take 257 page ++ drop 257 left ≡ page
     removed_put_back = rw is (put_back page (removed items (stacks page)))
 
@@ -89,9 +93,22 @@ blank_empties page =
     let lawful : Lawful [] = (omega arith, tt) in
     record { again = bag_again page [] lawful; holds = held_in-rewritten page [] lawful }
 
--- what removing and crafting make of what a bag holds
+-- what adding, removing and crafting make of what a bag holds
 
 module _ (page : List ℕ) (bag : is_bag page ≡ true) where
+  pub add_raises :
+      (items : Stack) → InRange items → (no_room items (stacks page)).0 ≡ false → Raised page (added_page page items) items
+  add_raises items range room =
+      let lawful = lawful_stacks page bag in
+      let after = lawful_added items (stacks page) range room lawful in
+      record {
+        again = bag_again page (added items (stacks page)) after;
+        holds = λ kind.
+            rw
+            (held_in-rewritten page (added items (stacks page)) after kind, bag)
+            (held-added kind items 0 (stacks page) lawful.1);
+      }
+
   pub remove_lowers :
       (items : Stack) → items.amount ≤ held items.kind (stacks page) → Lowered page (removed_page page items) items
   remove_lowers items enough =
@@ -126,19 +143,10 @@ module _ (page : List ℕ) (bag : is_bag page ≡ true) where
 -- what a good call makes of what a page holds: that its tests pass says all that is needed
 
 module _ (page : List ℕ) where
-  pub add_raises : (items : Stack) → Ok (tt {0}) ≡ answer (add_tests page items) tt → Raised page (added_page page items) items
-  add_raises items good =
-      let bag : is_bag page ≡ true = grind (arith, nat_tests) in
+  pub good_add_raises : (items : Stack) → Ok (tt {0}) ≡ answer (add_tests page items) tt → Raised page (added_page page items) items
+  good_add_raises items good =
       let range = in_range items (grind (arith, nat_tests)) (grind (arith, nat_tests)) in
-      let lawful = lawful_stacks page bag in
-      let after = lawful_added items (stacks page) range (grind (arith, nat_tests)) lawful in
-      record {
-        again = bag_again page (added items (stacks page)) after;
-        holds = λ kind.
-            rw
-            (held_in-rewritten page (added items (stacks page)) after kind, bag)
-            (held-added kind items 0 (stacks page) lawful.1);
-      }
+      add_raises page (grind (arith, nat_tests)) items range (grind (arith, nat_tests))
 
   pub good_remove_lowers :
       (items : Stack) → Ok (tt {0}) ≡ answer (remove_tests page items) tt → Lowered page (removed_page page items) items

@@ -22,16 +22,19 @@ place_in-text s range =
 -- a place that is known to hold something, by its text
 
 pub record Reads (bytes : List ℕ) (s : Stack) : Type 0 where
-  width : length bytes ≡ 8
-  kind_reads : numeral (take 3 bytes) ≡ true
-  amount_reads : numeral (drop 3 bytes) ≡ true
-  kind_is : value (take 3 bytes) ≡ s.kind
-  amount_is : value (drop 3 bytes) ≡ s.amount
+  pub kind_width : length (take 3 bytes) ≡ 3
+  pub amount_width : length (drop 3 bytes) ≡ 5
+  pub kind_reads : numeral (take 3 bytes) ≡ true
+  pub amount_reads : numeral (drop 3 bytes) ≡ true
+  pub kind_is : value (take 3 bytes) ≡ s.kind
+  pub amount_is : value (drop 3 bytes) ≡ s.amount
 
 reads_from : (bytes : List ℕ) (s : Stack) → place_in bytes ≡ Filled s → Reads bytes s
 reads_from bytes s is =
+    let eight : length bytes ≡ 8 = grind (arith, nat_tests) in
     record {
-      width = grind (arith, nat_tests);
+      kind_width = length-take-le 3 bytes (omega arith);
+      amount_width = omega (arith, length-drop 3 bytes);
       kind_reads = grind (arith, nat_tests);
       amount_reads = grind (arith, nat_tests);
       kind_is = grind (arith, nat_tests);
@@ -42,22 +45,16 @@ module _ (bytes : List ℕ) (s : Stack) (is : place_in bytes ≡ Filled s) where
   reads : Reads bytes s
   reads = reads_from bytes s is
 
-  kind_width : length (take 3 bytes) ≡ 3
-  kind_width = length-take-le 3 bytes (omega (arith, reads.width))
-
-  amount_width : length (drop 3 bytes) ≡ 5
-  amount_width = omega (arith, length-drop 3 bytes, reads.width)
-
   pub filled_text : bytes ≡ text s
   filled_text =
-      let kind_text = rw (kind_width, reads.kind_is) at (columns-value (take 3 bytes) reads.kind_reads) in
-      let amount_text = rw (amount_width, reads.amount_is) at (columns-value (drop 3 bytes) reads.amount_reads) in
+      let kind_text = rw (reads.kind_width, reads.kind_is) at (columns-value (take 3 bytes) reads.kind_reads) in
+      let amount_text = rw (reads.amount_width, reads.amount_is) at (columns-value (drop 3 bytes) reads.amount_reads) in
       rw (← kind_text, ← amount_text) at (sym (take-append-drop 3 bytes))
 
   pub filled_in_range : InRange s
   filled_in_range =
-      let kind_below = rw (kind_width, reads.kind_is) at (value_below (take 3 bytes) reads.kind_reads) in
-      let amount_below = rw (amount_width, reads.amount_is) at (value_below (drop 3 bytes) reads.amount_reads) in
+      let kind_below = rw (reads.kind_width, reads.kind_is) at (value_below (take 3 bytes) reads.kind_reads) in
+      let amount_below = rw (reads.amount_width, reads.amount_is) at (value_below (drop 3 bytes) reads.amount_reads) in
       let kind_above = rw reads.kind_is at (value_above (take 3 bytes) reads.kind_reads) in
       let amount_above = rw reads.amount_is at (value_above (drop 3 bytes) reads.amount_reads) in
       ((omega arith, omega arith), (omega arith, omega arith))

@@ -42,7 +42,7 @@ pub(crate) fn raise(page: &mut [u8; PAGE_LENGTH], items: Stack) -> Result<(), Re
     ensures answers { by_number result ≡ answer (no_room items (stacks page.old) ∷ []) tt }
     ensures leaves { page.new ≡ on_ok result (added_page page.old items) page.old }
 {
-    let bag = Bag::known(page);
+    let bag = Bag { page };
     let (place, held) = bag.find(items.kind);
     if held == 0 {
         if bag.is_full() {

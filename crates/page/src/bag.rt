@@ -15,7 +15,7 @@ use refusal::Refusal;
 // A page that is known to be a bag.
 #[derive(Clone, Copy)]
 pub(crate) struct Bag<'a> {
-    page: &'a [u8; PAGE_LENGTH],
+    pub(crate) page: &'a [u8; PAGE_LENGTH],
     ghost is_bag: { is_bag page.now ≡ true },
 }
 
@@ -38,14 +38,6 @@ impl<'a> Bag<'a> {
         } else {
             None
         }
-    }
-
-    // The bag on a page that is known to be one: its places need not be read again.
-    pub(crate) fn known(page: &'a [u8; PAGE_LENGTH]) -> Bag<'a>
-        requires { is_bag page.now ≡ true }
-        ensures { result.page.now ≡ page.now }
-    {
-        Bag { page }
     }
 
     // What a place of the bag holds.

@@ -4,8 +4,8 @@ ghost use Rattle.std.specs.Prelude.{◌≡◌, true, [], ◌∷◌, OnOk};
 ghost use Rattle.page.specs.Calls.{held_too_few, not_enough, remove_tests, removed_page};
 ghost use Rattle.page.specs.Holdings.{Lowered};
 ghost use Rattle.page.specs.Pages.{is_bag, stacks};
-ghost use Rattle.page.specs.Steps.{left_of};
 ghost use Rattle.page.specs.Stacks.{InRange};
+ghost use Rattle.page.specs.Steps.{left_of};
 ghost use Rattle.refusal.specs.Answers.{answer, by_number, on_ok};
 
 use crate::bag::Bag;
@@ -42,7 +42,7 @@ pub(crate) fn lower(page: &mut [u8; PAGE_LENGTH], items: Stack) -> Result<(), Re
     ensures answers { by_number result ≡ answer (not_enough items (stacks page.old) ∷ []) tt }
     ensures leaves { page.new ≡ on_ok result (removed_page page.old items) page.old }
 {
-    let bag = Bag::known(page);
+    let bag = Bag { page };
     let (place, held) = bag.find(items.kind);
     match lowered(held, items.amount)? {
         Some(amount) => write_stack(page, place, Stack { amount, ..items }),

@@ -2,7 +2,7 @@ use Rattle.std.proofs.Common.{ℕ, List, refl, arith}
 use Rattle.page.specs.Calls.{add_tests}
 use Rattle.page.specs.Stacks.{added}
 use Rattle.page.specs.Holdings.{Raised}
-use Rattle.page.proofs.BagLaws.{add_raises}
+use Rattle.page.proofs.BagLaws.{good_add_raises}
 use Rattle.page.proofs.FirstBytes.{claims_first, is_bag_first, short_page_first, stacks_first}
 use Rattle.page.proofs.adding.add.Goals as goal
 
@@ -16,7 +16,7 @@ returns c =
     (added items)
     (λ (left : List ℕ). Raised page left items)
     (rw (short_page_first page, is_bag_first page, stacks_first page) refl)
-    (add_raises page items)
+    (good_add_raises page items)
     c.in_ok-bytes.bytes.now
     (grind arith)
     c.put.result
