@@ -7,7 +7,7 @@ BAGDUMP := crates/bagdump/out/bagdump
 
 demo:
 	@mkdir -p target
-	@echo "proving and building bagdump (a minute or two where nothing was proved before) ..."
+	@echo "proving and building bagdump (some minutes where nothing was proved before) ..."
 	@(cd crates/bagdump && rt run) > target/demo.log 2>&1 || { cat target/demo.log; exit 1; }
 	@echo "bagdump < $(SAMPLE)"
 	@$(BAGDUMP) < $(SAMPLE)

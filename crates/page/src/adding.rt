@@ -34,8 +34,8 @@ fn put(page: &mut [u8; PAGE_LENGTH], items: Stack) -> Result<(), Refusal>
     raise(page, items)
 }
 
-// Adds items that are in range to a page that is a bag. It tests neither, so that a craft reads its places once: what a removal
-// leaves is a bag again.
+// Adds items that are in range to a page that is a bag. It tests neither, so that a craft tests its page once: what a removal leaves
+// is a bag again.
 pub(crate) fn raise(page: &mut [u8; PAGE_LENGTH], items: Stack) -> Result<(), Refusal>
     requires bag { is_bag page.old ≡ true }
     requires range { InRange items }

@@ -24,8 +24,8 @@ pub fn craft(page: &mut [u8], out: Stack, into: Stack) -> Result<(), Refusal>
 }
 
 // Crafts on a page of exactly 257 bytes: the removal is a trial, put back unless the adding is good too. What the removal leaves is
-// a bag again, so all places are read once. Items in range are no type: it would be made of one stack after the other, but both
-// kinds are tested before both amounts.
+// a bag again, so the page is tested once. Items in range are no type: it would be made of one stack after the other, but both kinds
+// are tested before both amounts.
 fn exchange(page: &mut [u8; PAGE_LENGTH], out: Stack, into: Stack) -> Result<(), Refusal>
     ensures answers { by_number result ≡ answer (craft_tests page.old out into) tt }
     ensures leaves { page.new ≡ on_ok result (crafted_page page.old out into) page.old }
